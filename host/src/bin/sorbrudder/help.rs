@@ -20,13 +20,13 @@ sorbrudder: archives of Molang token lists, checked, compared, lifted to a versi
   sorbrudder draw FILE#N --at 4,6 -o PAGE  two trees side by side as a page for a browser
   sorbrudder ops                           the operators
 
-`sorbrudder COMMAND --help` says more. Lists are numbered from 0. A folder stands for all archives in it, by name, but for those whose
-names begin with a dot or end in `.bak`; files that are no archives are skipped and counted, and a folder without an archive is a wrong
-argument. `--glob PATTERN`, of the names of a folder's files or, with a /, of their paths in it, says which are meant (*, ?, [a-z], **, and !
-before a pattern of what is left out); it can be given several times. `-` is standard input or output. What is told of lists goes to standard output, `--json`
-makes it a line of JSON a list (and one for a file that fails, and a summary); a file's name that is not UTF-8 is there with its bytes in
-hexadecimal (file_bytes). Progress and the summary go to standard error. NO_COLOR is heeded. Where
-nobody reads standard output any more, a command ends without a word; of an archive that is written there with status 3, since it is cut.
+`sorbrudder COMMAND --help` says more. Lists are numbered from 0. A folder stands for all archives in it, by name, but for those whose names
+begin with a dot or end in `.bak`; files that are no archives are skipped and counted, and a folder without an archive is a wrong argument.
+`--glob PATTERN`, of the names of a folder's files or, with a /, of their paths in it, says which are meant (*, ?, [a-z], **, and ! before a
+pattern of what is left out); it can be given several times. `-` is standard input or output. What is told of lists goes to standard output,
+`--json` makes it a line of JSON a list (and one for a file that fails, and a summary); a file's name that is not UTF-8 is there with its
+bytes in hexadecimal (file_bytes). Progress and the summary go to standard error. NO_COLOR is heeded. Where nobody reads standard output any
+more, a command ends without a word; of an archive that is written there with status 3, since it is cut.
 
 Exit status: 0 all well, 1 some lists differ, stayed behind or are no trees, 2 wrong arguments, 3 input or output failed,
 4 an archive is damaged.
@@ -128,8 +128,8 @@ const SALVAGE: &str = "\
 sorbrudder salvage IN -o OUT [--json]
 
 Writes what is whole of a damaged archive, and tells which bytes are lost. In a container each list has its length and its checksum, so it
-goes on behind the damage; of a plain file of words what is before the damage is whole (docs/FORMAT.md). OUT has the format of IN. The status
-is 0 where nothing is lost, 1 where something is and OUT has the rest, and 4 where no list is whole, and nothing is written.
+goes on behind the damage; of a plain file of words what is before the damage is whole (docs/FORMAT.md). OUT has the format of IN. The
+status is 0 where nothing is lost, 1 where something is and OUT has the rest, and 4 where no list is whole, and nothing is written.
 
   -o OUT    the archive that is written, or - for standard output; never IN itself
   --json    a line of JSON for each place where bytes are lost: file, result (lost), start, end
