@@ -38,7 +38,10 @@ fn check_counts_lists_and_tells_of_those_that_are_no_trees() {
     let first = r#"{"file":"seven","list":0,"byte":16,"version":4,"result":"tree"}"#;
     assert_eq!(json.out.lines().next(), Some(first));
     let last = json.out.lines().nth(6).expect("a line");
-    let messages = r#""result":"no-tree","messages":[{"number":6,"start":4,"end":5,"text":"the list ends within this `(`, before its `)`"},"#;
+    let messages = concat!(
+        r#""result":"no-tree","messages":[{"number":6,"start":4,"end":5,"#,
+        r#""text":"the list ends within this `(`, before its `)`"},"#
+    );
     assert!(last.contains(messages), "{last}");
 }
 
@@ -124,7 +127,10 @@ fn diff_names_the_node_and_the_rule() {
     );
     let json = run(&folder, &["diff", "seven", "--to", "6", "--json"]);
     let second = json.out.lines().nth(1).expect("a line");
-    let place = r#""version":5,"to":6,"result":"differs","node":0,"op":57,"operator":"&&","start":2,"end":4,"own_reading":"a && (b || c)","to_reading":"(a && b) || c","rule":"up to"#;
+    let place = concat!(
+        r#""version":5,"to":6,"result":"differs","node":0,"op":57,"operator":"&&","start":2,"end":4,"#,
+        r#""own_reading":"a && (b || c)","to_reading":"(a && b) || c","rule":"up to"#
+    );
     assert!(second.contains(place), "{second}");
     write(
         &folder,
@@ -435,7 +441,10 @@ fn check_tells_of_lists_that_are_deeper_than_a_limit() {
     assert_eq!(checked.err, summary);
     let json = run_line(&folder, "check deep --limit 1 --json");
     let third = json.out.lines().nth(2).expect("a line");
-    let told = r#""version":5,"result":"too-deep","token":3,"op":4,"operator":"(","start":5,"end":6,"messages":[{"number":18,"start":5,"end":6}],"#;
+    let told = concat!(
+        r#""version":5,"result":"too-deep","token":3,"op":4,"operator":"(","start":5,"end":6,"#,
+        r#""messages":[{"number":18,"start":5,"end":6}],"#
+    );
     assert!(third.contains(told), "{third}");
     for limit in ["0", "4097", "-1", "deep", ""] {
         let wrong = run(&folder, &["check", "deep", "--limit", limit]);
@@ -495,7 +504,10 @@ fn lists_that_were_too_deep_for_their_own_limit_stay_behind() {
     let lifted = run_line(&folder, "lift deep -o six --to 6 --own-limit 1 --json");
     assert_eq!(lifted.status, Some(1), "{lifted:?}");
     let third = lifted.out.lines().nth(2).expect("a line");
-    let told = r#""result":"too-deep","token":3,"op":4,"operator":"(","start":5,"end":6,"reason":"own-limit","messages":[{"number":18,"start":5,"end":6}],"#;
+    let told = concat!(
+        r#""result":"too-deep","token":3,"op":4,"operator":"(","start":5,"end":6,"reason":"own-limit","#,
+        r#""messages":[{"number":18,"start":5,"end":6}],"#
+    );
     assert!(third.contains(told), "{third}");
     let text = "too deep for its own limit of 1: token 3, `(` at 5-6";
     assert!(third.contains(text), "{third}");

@@ -68,15 +68,25 @@ fn the_last_record_is_a_summary() {
     };
     assert_eq!(
         last("check seven --json"),
-        r#"{"result":"summary","command":"check","files":1,"failed":0,"skipped":0,"lists":7,"trees":6,"no_trees":1,"too_deep":0,"refused":0,"status":1}"#
+        concat!(
+            r#"{"result":"summary","command":"check","files":1,"failed":0,"skipped":0,"#,
+            r#""lists":7,"trees":6,"no_trees":1,"too_deep":0,"refused":0,"status":1}"#
+        )
     );
     assert_eq!(
         last("diff cut seven --to 6 --json"),
-        r#"{"result":"summary","command":"diff","to":6,"files":2,"failed":1,"skipped":0,"lists":7,"same":2,"differ":3,"only_old":1,"only_new":0,"no_trees":1,"refused":0,"status":4}"#
+        concat!(
+            r#"{"result":"summary","command":"diff","to":6,"files":2,"failed":1,"skipped":0,"#,
+            r#""lists":7,"same":2,"differ":3,"only_old":1,"only_new":0,"no_trees":1,"refused":0,"status":4}"#
+        )
     );
     assert_eq!(
         last("lift seven --dry-run --to 6 --json"),
-        r#"{"result":"summary","command":"lift","to":6,"files":1,"failed":0,"skipped":0,"lists":7,"written":3,"scripts":0,"same":2,"unsettled":0,"no_trees":1,"refused":0,"not_writable":1,"too_deep":0,"held_back":0,"untouched":0,"status":1}"#
+        concat!(
+            r#"{"result":"summary","command":"lift","to":6,"files":1,"failed":0,"skipped":0,"#,
+            r#""lists":7,"written":3,"scripts":0,"same":2,"unsettled":0,"no_trees":1,"refused":0,"#,
+            r#""not_writable":1,"too_deep":0,"held_back":0,"untouched":0,"status":1}"#
+        )
     );
 }
 

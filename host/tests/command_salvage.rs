@@ -169,8 +169,8 @@ fn salvage_writes_what_is_whole_and_tells_what_is_lost() {
     std::fs::write(folder.join("turned"), &turned).expect("a file");
     let checked = run_line(&folder, "check turned");
     assert_eq!(checked.status, Some(4), "{checked:?}");
-    let told = "turned: damaged at byte 208 (list 1): a list's checksum is wrong; 6 of 7 lists are whole, and 112 bytes at 1 places are lost; \
-                `sorbrudder salvage` writes what is whole\n";
+    let told = "turned: damaged at byte 208 (list 1): a list's checksum is wrong; 6 of 7 lists are whole, \
+                and 112 bytes at 1 places are lost; `sorbrudder salvage` writes what is whole\n";
     assert!(checked.err.contains(told), "{}", checked.err);
     let saved = run_line(&folder, "salvage turned -o saved");
     assert_eq!(saved.status, Some(1), "{saved:?}");

@@ -27,8 +27,8 @@ pub enum Piece<'w> {
 
 /// Goes through a file and on behind damage, as far as the format lets one.
 ///
-/// In a container each list has its length and its checksum, so behind bytes that are no list the next list is where a version, a length and
-/// so many words have their checksum. In a file of words nothing tells where a list begins behind damage: what follows is lost.
+/// In a container each list has its length and its checksum, so behind bytes that are no list the next list is where a version, a length
+/// and so many words have their checksum. In a file of words nothing tells where a list begins behind damage: what follows is lost.
 ///
 /// ```
 /// use sorbrudder::archive::{Format, ListsWriter, Piece, Salvage};
@@ -221,8 +221,8 @@ enum Record {
     Neither,
 }
 
-/// How many bytes of would-be lists may be looked through without a list among them, at the first, and for each byte that is passed by: with
-/// it a file that is made to look like beginnings of long lists takes no longer than its length allows.
+/// How many bytes of would-be lists may be looked through without a list among them, at the first, and for each byte that is passed by:
+/// with it a file that is made to look like beginnings of long lists takes no longer than its length allows.
 const LOOKS: u64 = 1 << 26;
 const LOOKS_A_BYTE: u64 = 256;
 

@@ -60,12 +60,12 @@ pub const EVERYWHERE: &[args::Option] = &[
 /// What there is to say of all commands, in paragraphs.
 pub const NOTES: &[&str] = &[
     "Lists are numbered from 0. A folder stands for all archives in it, by name, but for those whose names begin with a dot or end in \
-     `.bak`; files that are no archives are skipped and counted, and a folder without an archive is a wrong argument. `-` is standard input \
-     or output.",
-    "What is told of lists goes to standard output, `--json` makes it a line of JSON a list (and one for a file that fails, and a summary); \
-     a file's name that is not UTF-8 is there with its bytes in hexadecimal (file_bytes). Progress and the summary go to standard error. Where nobody reads standard output any more, a command goes on, and its status speaks of all lists; \
-     of an archive that is written there it ends with status 3, since it is cut. Control characters of names and sources are shown as \
-     escapes.",
+     `.bak`; files that are no archives are skipped and counted, and a folder without an archive is a wrong argument. `-` is standard \
+     input or output.",
+    "What is told of lists goes to standard output, `--json` makes it a line of JSON a list (and one for a file that fails, and a \
+     summary); a file's name that is not UTF-8 is there with its bytes in hexadecimal (file_bytes). Progress and the summary go to \
+     standard error. Where nobody reads standard output any more, a command goes on, and its status speaks of all lists; of an archive \
+     that is written there it ends with status 3, since it is cut. Control characters of names and sources are shown as escapes.",
 ];
 
 /// The exit statuses.
@@ -128,16 +128,17 @@ pub const COMMANDS: &[Command] = &[
             ),
             args::flag(
                 "--json",
-                "a line of JSON for every list: file, list, byte, version, result (tree, no-tree, too-deep, refused), messages with number, \
-                 start, end and text, and token, op, operator, start and end where it is too deep; at the end a record with the result \
-                 summary and the counts",
+                "a line of JSON for every list: file, list, byte, version, result (tree, no-tree, too-deep, refused), messages with \
+                 number, start, end and text, and token, op, operator, start and end where it is too deep; at the end a record with the \
+                 result summary and the counts",
             ),
             GLOB,
             JOBS,
         ],
         notes: &[
-            "An archive that is cut or has a bit turned over is told of on standard error, with how much of it is whole (`sorbrudder salvage` \
-             writes it), and the status is 4. In a plain file of words, damage at a token's end cannot be seen, which is said once a file.",
+            "An archive that is cut or has a bit turned over is told of on standard error, with how much of it is whole (`sorbrudder \
+             salvage` writes it), and the status is 4. In a plain file of words, damage at a token's end cannot be seen, which is said \
+             once a file.",
         ],
         takes: Takes::Files,
         run: check::run,
@@ -259,9 +260,9 @@ pub const COMMANDS: &[Command] = &[
         usage: &["PATH.."],
         line: "the lists as text, a line each, or as lines of JSON",
         about: &[
-            "Writes the lists of archives down, a line each: the version, a tab, the list in the notation, and, where the spans of its tokens \
-             are not those that they have in this text, a tab and the spans. Words that are no tokens are a $ and the words in hexadecimal. \
-             `sorbrudder pack` makes the same archive of it again.",
+            "Writes the lists of archives down, a line each: the version, a tab, the list in the notation, and, where the spans of its \
+             tokens are not those that they have in this text, a tab and the spans. Words that are no tokens are a $ and the words in \
+             hexadecimal. `sorbrudder pack` makes the same archive of it again.",
         ],
         options: &[
             args::flag(
@@ -306,8 +307,8 @@ pub const COMMANDS: &[Command] = &[
         about: &[
             "Writes what is whole of a damaged archive, and tells which bytes are lost. In a container each list has its length and its \
              checksum, so it goes on behind the damage; of a plain file of words what is before the damage is whole (docs/FORMAT.md). OUT \
-             has the format of IN. The status is 0 where nothing is lost, 1 where something is and OUT has the rest, and 4 where no list is \
-             whole, and nothing is written.",
+             has the format of IN. The status is 0 where nothing is lost, 1 where something is and OUT has the rest, and 4 where no list \
+             is whole, and nothing is written.",
         ],
         options: &[
             args::with(
@@ -414,12 +415,12 @@ pub const COMMANDS: &[Command] = &[
         usage: &["FILE#N -o PAGE", "-e LIST -o PAGE"],
         line: "two trees side by side as a page for a browser",
         about: &[
-            "Writes a page with the trees of two versions side by side, each node with the rule that paired its operands. The source stands \
-             above them with what each version pairs drawn under it as brackets. The operators that are paired otherwise have the number \
-             and the colour of their part, in the source, in the trees and before the sentences on it; the place of a message is marked \
-             where a version reads no tree. A node under the pointer, in focus or clicked shows its piece of the source, and a token its \
-             nodes. The page is one file that needs nothing from elsewhere, says all without its script, and can be printed. It never takes \
-             the place of what it is drawn from.",
+            "Writes a page with the trees of two versions side by side, each node with the rule that paired its operands. The source \
+             stands above them with what each version pairs drawn under it as brackets. The operators that are paired otherwise have the \
+             number and the colour of their part, in the source, in the trees and before the sentences on it; the place of a message is \
+             marked where a version reads no tree. A node under the pointer, in focus or clicked shows its piece of the source, and a \
+             token its nodes. The page is one file that needs nothing from elsewhere, says all without its script, and can be printed. It \
+             never takes the place of what it is drawn from.",
         ],
         options: &[
             E,

@@ -91,8 +91,8 @@ pub fn run(args: &Args) -> Result<Status, Failure> {
 fn tell(sum: &Carried, options: &Options, failed: usize) {
     let (to, stayed) = (options.to, sum.stayed());
     output::tell(&format!(
-        "{} lists to version {to}: {} written anew ({} of them scripts), {} left alone (both versions read them alike), {stayed} stayed behind \
-         ({} no trees, {} refused, {} not writable, {} too deep)",
+        "{} lists to version {to}: {} written anew ({} of them scripts), {} left alone (both versions read them alike), \
+         {stayed} stayed behind ({} no trees, {} refused, {} not writable, {} too deep)",
         sum.lists,
         sum.written,
         sum.scripts,

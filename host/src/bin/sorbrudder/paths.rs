@@ -46,8 +46,8 @@ impl Found {
     }
 }
 
-/// The files of the paths that are given. Of a folder's files those are passed over whose names begin with a dot or end in `.bak`, and those
-/// that `--glob` leaves out; those that are no archives are counted. A folder with nothing to read is a wrong argument.
+/// The files of the paths that are given. Of a folder's files those are passed over whose names begin with a dot or end in `.bak`, and
+/// those that `--glob` leaves out; those that are no archives are counted. A folder with nothing to read is a wrong argument.
 pub fn find(args: &Args) -> Result<Found, Failure> {
     let patterns = args.values("--glob");
     let globs = Globs::of(patterns.map(|pattern| pattern.as_encoded_bytes()));

@@ -215,8 +215,8 @@ fn one_name(named: &Path, target: &Path, there: &Metadata) -> Result<(), Failure
     }
 }
 
-/// A new file in a folder, locked as long as this run is at work on it. A name that is taken is passed by, and so is one that another run has
-/// just taken for left over.
+/// A new file in a folder, locked as long as this run is at work on it. A name that is taken is passed by, and so is one that another run
+/// has just taken for left over.
 fn begin(folder: &Path) -> io::Result<(PathBuf, File)> {
     loop {
         let number = BEGUN.fetch_add(1, Ordering::Relaxed);
