@@ -322,7 +322,7 @@ fn bash_completes_commands_options_and_their_values() {
     assert_eq!(completed(&["-q", "dr"]), ["draw"]);
     assert_eq!(completed(&["--color", "never", "dr"]), ["draw"]);
     assert_eq!(completed(&["--color", ""]), ["auto", "always", "never"]);
-    assert_eq!(completed(&["lift", "--d"]), ["--dry-run"]);
+    assert_eq!(completed(&["lift", "--dr"]), ["--dry-run"]);
     assert_eq!(
         completed(&["lift", "--to", "6", "--s"]),
         ["--strict", "--settle"]
