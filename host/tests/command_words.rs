@@ -80,6 +80,28 @@ fn what_a_terminal_would_obey_is_shown_escaped() {
 }
 
 #[test]
+fn the_name_of_a_damaged_file_is_shown_escaped() {
+    let folder = folder("escaped-damage");
+    let name = OsStr::from_bytes(NAME);
+    let mut bytes = archive(Format::Container, &SEVEN);
+    let middle = bytes.len() / 2;
+    bytes[middle] ^= 1;
+    std::fs::write(folder.join(name), bytes).expect("a file");
+    let [to, out] = ["-o", "out"].map(OsStr::new);
+    for words in [
+        &[OsStr::new("salvage"), name, to, out][..],
+        &[OsStr::new("pack"), name, to, out],
+        &[OsStr::new("sum"), name],
+    ] {
+        let run = command().current_dir(&folder).args(words).output();
+        let run = run.expect("it runs");
+        let told = String::from_utf8([run.stdout, run.stderr].concat()).expect("text");
+        let is_shown = told.contains(SHOWN) && !told.contains('\x1b');
+        assert!(is_shown, "{words:?}: {told:?}");
+    }
+}
+
+#[test]
 fn a_source_is_shown_escaped() {
     let run = |list: &str, command: &str| run(Path::new("."), &[command, "--at", "6", "-e", list]);
     let string = "'\x1b[31m\u{202e}' + (a";

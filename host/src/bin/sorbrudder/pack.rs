@@ -2,6 +2,7 @@
 
 use crate::args::Args;
 use crate::cat::WORDS;
+use crate::escape;
 use crate::failure::{Failure, Status};
 use crate::output;
 use crate::parse::Value;
@@ -62,8 +63,9 @@ fn pack<W: Write>(
         let mut lines = open(path)?;
         while let Some(line) = next_line(path, &mut lines)? {
             number += 1;
-            let wrong =
-                |why: String| Failure::Damaged(format!("{}: line {number}: {why}", path.display()));
+            let wrong = |why: String| {
+                Failure::Damaged(format!("{}: line {number}: {why}", escape::path(path)))
+            };
             let Some((version, words)) = list_of(&line).map_err(wrong)? else {
                 continue;
             };
@@ -94,7 +96,7 @@ fn next_line(path: &Path, lines: &mut dyn BufRead) -> Result<Option<String>, Fai
     let read = read.map_err(|why| Failure::io(path, &why))?;
     if read as u64 == MOST_BYTES {
         let why = "a line is longer than any list";
-        return Err(Failure::Damaged(format!("{}: {why}", path.display())));
+        return Err(Failure::Damaged(format!("{}: {why}", escape::path(path))));
     }
     let len = line.trim_end_matches(['\n', '\r']).len();
     line.truncate(len);

@@ -1,6 +1,7 @@
 //! `sorbrudder salvage`: what is whole of a damaged archive.
 
 use crate::args::Args;
+use crate::escape;
 use crate::failure::{Failure, Status};
 use crate::json::Object;
 use crate::output;
@@ -102,7 +103,7 @@ impl Teller<'_> {
                 .number("end", end);
             object.done() + "\n"
         } else {
-            let from = self.from.display();
+            let from = escape::path(self.from);
             format!("{from}: bytes {start} to {end} are lost\n")
         };
         match self.is_stderr {
@@ -146,7 +147,7 @@ fn write<R: Read, W: Write>(
     saved.count = pieces.count();
     if saved.is_nothing() {
         let (from, why) = (
-            teller.from.display(),
+            escape::path(teller.from),
             "no list is whole; nothing was written",
         );
         return Err(Failure::Damaged(format!("{from}: {why}")));

@@ -1,6 +1,7 @@
 //! `sorbrudder sum`: adds up the summaries of several runs, of shards of an archive or of several hosts.
 
 use crate::args::Args;
+use crate::escape;
 use crate::failure::{Failure, Status};
 use crate::json::Object;
 use crate::output;
@@ -31,7 +32,7 @@ pub fn run(args: &Args) -> Result<Status, Failure> {
     }
     let text = match args.has("--json") {
         true => sum.as_json(),
-        false => sum.as_text(),
+        false => escape::lines(&sum.as_text()).into_owned(),
     };
     output::print(&text)?;
     Ok(match sum.status {
@@ -46,7 +47,7 @@ pub fn run(args: &Args) -> Result<Status, Failure> {
 /// Adds the summaries of a report. One that does not end with a summary was cut.
 fn add_report(sum: &mut Sum, path: &Path) -> Result<(), Failure> {
     let failed = |why: io::Error| Failure::io(path, &why);
-    let wrong = |why: &str| Failure::Damaged(format!("{}: {why}", path.display()));
+    let wrong = |why: &str| Failure::Damaged(format!("{}: {why}", escape::path(path)));
     let report: Box<dyn BufRead> = match is_stream(path) {
         true => Box::new(BufReader::new(io::stdin())),
         false => Box::new(BufReader::new(File::open(path).map_err(failed)?)),
