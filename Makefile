@@ -15,14 +15,14 @@ endif
 
 help:
 	@echo 'make command    builds the command host/target/release/sorbrudder'
-	@echo 'make demo       writes sample archives to target/sample, and checks, compares, lifts and draws them'
+	@echo 'make demo       writes sample archives to target/sample, and checks, compares, lifts, draws and reports on them'
 	@echo 'make install    installs the command with its man page and completions, the programs, the library, its header and its' \
 	    'pkg-config file (PREFIX=/usr/local DESTDIR=)'
 	@echo 'make uninstall  takes them away again (the same PREFIX and DESTDIR)'
 	@echo 'make library    proves the library and builds it, where something changed; without rt the prebuilt one is used'
 	@echo 'make programs   proves the programs everylist, liftcount and treelist and builds them, to target/bin'
 	@echo 'make host       runs the tests of the host crate'
-	@echo 'make browser    looks at a drawing in a headless Chromium, and takes a screenshot'
+	@echo 'make browser    looks at the pages of draw and report in a headless Chromium, and takes screenshots'
 	@echo 'make test       the gate: everything from nothing, which takes long; removes target/ first'
 	@echo 'make compare    compares the library and the programs with the Rust parser (LISTS=5000000 SEED=1)'
 	@echo 'make bench      times reading, writing, stack order, lifting and the programs' \

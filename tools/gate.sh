@@ -95,7 +95,7 @@ for crate in oracle compare host; do
     rust_tests "$crate"
 done
 
-step "the drawing in a browser" tools/browser.sh --if-there
+step "the pages in a browser" tools/browser.sh --if-there
 
 source=${MOLANGX_SRC:-../shared/docs/src}
 if [ ! -f "$source/src/compile/parse/mod.rs" ]; then
@@ -116,6 +116,8 @@ cargo clippy --version >/dev/null 2>&1 || clippy=
 for crate in sys host; do
     step "documentation of $crate" env RUSTDOCFLAGS="-D warnings" \
         cargo doc --manifest-path "$crate/Cargo.toml" --offline --no-deps --quiet
+done
+for crate in oracle sys compare host; do
     [ -z "$clippy" ] ||
         step "clippy on $crate" cargo clippy --manifest-path "$crate/Cargo.toml" --release --offline --all-targets --quiet -- -D warnings
 done

@@ -132,6 +132,9 @@ pack.json:4:16: no `)` closes this `(`
 "#;
     assert_eq!((text.status, text.out.as_str()), (Some(1), told));
     assert_eq!(run(&folder, &[&["read"], &source[..]].concat()).out, told);
+    let json = run(&folder, &[&["explain", "--json"], &source[..]].concat());
+    let place = r#"{"number":5,"start":59,"end":60,"line":4,"column":16,"text":"no `)`"#;
+    assert!(json.out.contains(place), "{json:?}");
     // The other commands show the list's lines too, and no other.
     pack(&folder, PACK, "a + b");
     let text = run(&folder, &[&["versions"], &source[..]].concat()).out;
@@ -189,4 +192,50 @@ sorbrudder: the list is not in the notation of lists
    |   ^
 ";
     assert_eq!((run.status, run.err.as_str()), (Some(2), told));
+}
+
+/// Any spans in any text: the command tells something, and no line is wider than it may be.
+#[test]
+fn any_span_of_any_text_is_shown() {
+    const SIGNS: [&str; 10] = [
+        "a", " ", "\t", "\n", "\r\n", "ß", "日", "e\u{301}", "\x1b", "🌾",
+    ];
+    let folder = folder("explain_any");
+    let mut rng = common::Rng(1);
+    for round in 0..150 {
+        let text: String = (0..rng.below(if round % 5 == 0 { 600 } else { 30 }))
+            .map(|_| SIGNS[rng.below(if round % 5 == 0 { 2 } else { 10 })])
+            .collect();
+        let place = |rng: &mut common::Rng| rng.below(text.len() + 3) as u32;
+        let list: Tokens = ["(", "a", "]", "b"]
+            .map(|piece| {
+                let span = sorbrudder::Span::new(place(&mut rng), place(&mut rng));
+                sorbrudder::Token {
+                    span: span.expect("a span"),
+                    ..piece.parse::<Tokens>().expect("the notation")[0]
+                }
+            })
+            .to_vec()
+            .into();
+        let mut writer = ListsWriter::new(Vec::new(), Format::Container).expect("bytes");
+        writer.write(6, &list.words()).expect("bytes");
+        std::fs::write(folder.join("lists"), writer.finish().expect("bytes").0).expect("a file");
+        std::fs::write(folder.join("text"), &text).expect("a file");
+        for command in ["explain", "versions"] {
+            let run = run(&folder, &[command, "lists#0", "--source", "text"]);
+            assert_eq!(
+                (run.status, run.err.as_str()),
+                (Some(1), ""),
+                "{text:?} {list:?}"
+            );
+            let is_hidden =
+                |c: char| c.is_control() && c != '\n' && (c != '\t' || command == "explain");
+            assert!(!run.out.contains(is_hidden), "{run:?}");
+            let is_wide = |line: &str| line.chars().count() > 140;
+            assert!(
+                command == "versions" || !run.out.lines().any(is_wide),
+                "{run:?}"
+            );
+        }
+    }
 }

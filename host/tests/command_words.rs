@@ -80,6 +80,28 @@ fn what_a_terminal_would_obey_is_shown_escaped() {
 }
 
 #[test]
+fn the_name_of_a_damaged_file_is_shown_escaped() {
+    let folder = folder("escaped-damage");
+    let name = OsStr::from_bytes(NAME);
+    let mut bytes = archive(Format::Container, &SEVEN);
+    let middle = bytes.len() / 2;
+    bytes[middle] ^= 1;
+    std::fs::write(folder.join(name), bytes).expect("a file");
+    let [to, out] = ["-o", "out"].map(OsStr::new);
+    for words in [
+        &[OsStr::new("salvage"), name, to, out][..],
+        &[OsStr::new("pack"), name, to, out],
+        &[OsStr::new("sum"), name],
+    ] {
+        let run = command().current_dir(&folder).args(words).output();
+        let run = run.expect("it runs");
+        let told = String::from_utf8([run.stdout, run.stderr].concat()).expect("text");
+        let is_shown = told.contains(SHOWN) && !told.contains('\x1b');
+        assert!(is_shown, "{words:?}: {told:?}");
+    }
+}
+
+#[test]
 fn a_source_is_shown_escaped() {
     let run = |list: &str, command: &str| run(Path::new("."), &[command, "--at", "6", "-e", list]);
     let string = "'\x1b[31m\u{202e}' + (a";
@@ -128,6 +150,10 @@ fn a_slip_is_told_with_what_may_be_meant() {
             "ops --color sometimes",
             "ops: `--color` takes one of auto, always, never, not `sometimes`; ",
         ),
+        (
+            "--vrsion",
+            "help: there is no option `--vrsion` (did you mean `--version`?); ",
+        ),
         ("--color", "help: `--color` lacks its value; "),
     ] {
         let wrong = run_line(Path::new("."), line);
@@ -140,6 +166,11 @@ fn a_slip_is_told_with_what_may_be_meant() {
 #[test]
 fn the_version_is_told_before_and_after_a_command() {
     let told = format!("sorbrudder {}\n", env!("CARGO_PKG_VERSION"));
+    let help = run_line(Path::new("."), "help --help");
+    assert_eq!(
+        (help.status, help.out),
+        (Some(0), run_line(Path::new("."), "--help").out)
+    );
     for line in [
         "--version",
         "-V",
@@ -313,7 +344,7 @@ fn bash_completes_commands_options_and_their_values() {
     assert_eq!(completed(&["-q", "dr"]), ["draw"]);
     assert_eq!(completed(&["--color", "never", "dr"]), ["draw"]);
     assert_eq!(completed(&["--color", ""]), ["auto", "always", "never"]);
-    assert_eq!(completed(&["lift", "--d"]), ["--dry-run"]);
+    assert_eq!(completed(&["lift", "--dr"]), ["--dry-run"]);
     assert_eq!(
         completed(&["lift", "--to", "6", "--s"]),
         ["--strict", "--settle"]

@@ -105,6 +105,9 @@ pub fn everywhere(word: &OsStr) -> std::option::Option<usize> {
     Some(1 + usize::from(is_next))
 }
 
+/// The most threads that can be asked for.
+const MOST_JOBS: usize = 1_024;
+
 /// What a command was given.
 #[derive(Debug)]
 pub struct Args {
@@ -204,6 +207,12 @@ impl Args {
         given.map(|(_, value)| value.as_os_str())
     }
 
+    /// All values that were given, in their order.
+    pub fn values<'a>(&'a self, name: &'a str) -> impl Iterator<Item = &'a OsStr> {
+        let given = self.options.iter().filter(move |(given, _)| *given == name);
+        given.map(|(_, value)| value.as_os_str())
+    }
+
     pub fn path(&self, name: &str) -> std::option::Option<PathBuf> {
         self.value(name).map(PathBuf::from)
     }
@@ -248,6 +257,17 @@ impl Args {
                 Limit::MOST
             ))
         })
+    }
+
+    /// How many threads are to work: as many as `-j` says, else as the machine has.
+    pub fn jobs(&self) -> Result<usize, Failure> {
+        let Some(value) = self.value("-j") else {
+            return Ok(std::thread::available_parallelism().map_or(1, usize::from));
+        };
+        let value = value.to_string_lossy();
+        let jobs = value.trim().parse().ok();
+        jobs.filter(|jobs| (1..=MOST_JOBS).contains(jobs))
+            .ok_or_else(|| self.wrong(&format!("`-j` takes 1 to {MOST_JOBS}, not `{value}`")))
     }
 
     /// A version that has to be given.

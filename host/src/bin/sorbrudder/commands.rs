@@ -3,7 +3,10 @@
 
 use crate::args::{self, Args, Value};
 use crate::failure::{Failure, Status};
-use crate::{check, completions, diff, draw, explain, lift, man, ops, read, versions};
+use crate::{
+    cat, check, completions, diff, draw, explain, lift, man, ops, pack, read, report, salvage, sum,
+    versions,
+};
 
 /// A command.
 pub struct Command {
@@ -56,12 +59,13 @@ pub const EVERYWHERE: &[args::Option] = &[
 
 /// What there is to say of all commands, in paragraphs.
 pub const NOTES: &[&str] = &[
-    "Lists are numbered from 0. A folder stands for all files in it, by name, but for those whose names begin with a dot or end in `.bak`. \
-     `-` is standard input or output.",
-    "What is told of lists goes to standard output, `--json` makes it a line of JSON a list (and one for a file that fails); progress and \
-     the summary go to standard error. Where nobody reads standard output any more, a command goes on, and its status speaks of all lists; \
-     of an archive that is written there it ends with status 3, since it is cut. Control characters of names and sources are shown as \
-     escapes.",
+    "Lists are numbered from 0. A folder stands for all archives in it, by name, but for those whose names begin with a dot or end in \
+     `.bak`; files that are no archives are skipped and counted, and a folder without an archive is a wrong argument. `-` is standard \
+     input or output.",
+    "What is told of lists goes to standard output, `--json` makes it a line of JSON a list (and one for a file that fails, and a \
+     summary); a file's name that is not UTF-8 is there with its bytes in hexadecimal (file_bytes). Progress and the summary go to \
+     standard error. Where nobody reads standard output any more, a command goes on, and its status speaks of all lists; of an archive \
+     that is written there it ends with status 3, since it is cut. Control characters of names and sources are shown as escapes.",
 ];
 
 /// The exit statuses.
@@ -94,6 +98,17 @@ const LIMIT: args::Option = args::value(
     "N",
     "a nesting limit, 1 to 4096, which is the usual",
 );
+const JOBS: args::Option = args::value(
+    "-j",
+    "N",
+    "how many threads work, else as many as the machine has; what is written and told is the same",
+);
+const GLOB: args::Option = args::value(
+    "--glob",
+    "PATTERN",
+    "which files of a folder are meant, by their names or, with a /, by their paths in it: *, ?, [a-z], **, and ! before a pattern of what \
+     is left out; it can be given several times",
+);
 const TO_COMPARE: args::Option = args::value("--to", "V", "the version to compare with");
 
 pub const COMMANDS: &[Command] = &[
@@ -113,13 +128,17 @@ pub const COMMANDS: &[Command] = &[
             ),
             args::flag(
                 "--json",
-                "a line of JSON for every list: file, list, byte, version, result (tree, no-tree, too-deep, refused), messages, text, and \
-                 token, op, operator, start and end where it is too deep",
+                "a line of JSON for every list: file, list, byte, version, result (tree, no-tree, too-deep, refused), messages with \
+                 number, start, end and text, and token, op, operator, start and end where it is too deep; at the end a record with the \
+                 result summary and the counts",
             ),
+            GLOB,
+            JOBS,
         ],
         notes: &[
-            "An archive that is cut or has a bit turned over is told of on standard error, and the status is 4. In a plain file of words, \
-             damage at a token's end cannot be seen, which is said once a file.",
+            "An archive that is cut or has a bit turned over is told of on standard error, with how much of it is whole (`sorbrudder \
+             salvage` writes it), and the status is 4. In a plain file of words, damage at a token's end cannot be seen, which is said \
+             once a file.",
         ],
         takes: Takes::Files,
         run: check::run,
@@ -138,8 +157,11 @@ pub const COMMANDS: &[Command] = &[
             args::flag(
                 "--json",
                 "a line of JSON for every list: file, list, byte, version, to, result (same, differs, only-old, only-new, no-tree, \
-                 refused), and node, op, operator, start, end and reason of the first difference",
+                 refused), both readings (own_reading, to_reading), the rule, messages, and node, op, operator, start and end of the first \
+                 difference; at the end a record with the result summary and the counts",
             ),
+            GLOB,
+            JOBS,
         ],
         notes: &[],
         takes: Takes::Files,
@@ -176,7 +198,10 @@ pub const COMMANDS: &[Command] = &[
                 "N",
                 "the nesting limit of the engines that the lists were written for; one that is deeper was no tree there",
             ),
-            args::flag("--in-place", "replaces the files themselves"),
+            args::flag(
+                "--in-place",
+                "replaces the files themselves, but for those in which every list stays as it is",
+            ),
             args::flag(
                 "--backup",
                 "keeps each old file as FILE.bak, which must not be there yet",
@@ -184,6 +209,10 @@ pub const COMMANDS: &[Command] = &[
             args::flag(
                 "--dry-run",
                 "writes no archive, and tells what would be done; it needs no `-o` and no `--in-place`",
+            ),
+            args::flag(
+                "--diff",
+                "shows each list that is written anew, as it was and as it is; with `--dry-run`, as it would be",
             ),
             args::flag(
                 "--strict",
@@ -196,8 +225,9 @@ pub const COMMANDS: &[Command] = &[
             ),
             args::flag(
                 "--plain",
-                "writes plain files of words instead of containers (docs/FORMAT.md)",
+                "writes plain files of words (docs/FORMAT.md); else a file stays what it is",
             ),
+            args::flag("--container", "writes containers"),
             args::with(
                 "--report",
                 Value::File("FILE"),
@@ -207,17 +237,110 @@ pub const COMMANDS: &[Command] = &[
                 "--json",
                 "the same on standard output: file, list, byte, version, to, result (same, lifted, settled, stays, no-tree, too-deep, \
                  refused), and node or token, op, operator, start, end and reason of what stays behind or is not settled; the reason of \
-                 too-deep is as-given, as-written (the token is then one of the list with its brackets) or own-limit",
+                 too-deep is as-given, as-written (the token is then one of the list with its brackets) or own-limit. Of a list that is \
+                 written anew both readings (own_reading, to_reading), the rule, list_before and list_after. At the end a record with the \
+                 result summary and the counts, which `sorbrudder sum` adds up",
             ),
+            GLOB,
+            JOBS,
         ],
         notes: &[
-            "A file is written beside its target, brought to the disk, read back and compared, and then put in the target's place at once. \
-             Killed at any moment or on a full disk, the old file is whole; a file `.sorbrudder-*.tmp` may be left, and can be deleted. A \
-             target, a backup or a report that would take the place of a file that is lifted, or of another that is written, is a wrong \
-             argument, and nothing is begun.",
+            "A file is written beside its target, brought to the disk, read back and compared, and then put in the target's place at once, \
+             with its owner, rights and attributes. Killed at any moment or on a full disk, the old file is whole; a file \
+             `.sorbrudder-*.tmp` that is left is removed by the next run that writes to the folder. Of two runs on one file in place the \
+             second ends with 3, or works on what the first left; what another program writes meanwhile stays, and the status is 3. A file \
+             with several names (hard links) is not replaced. A target, a backup or a report that would take the place of a file that is \
+             lifted, or of another that is written, is a wrong argument, and nothing is begun.",
         ],
         takes: Takes::Files,
         run: lift::run,
+    },
+    Command {
+        name: "cat",
+        usage: &["PATH.."],
+        line: "the lists as text, a line each, or as lines of JSON",
+        about: &[
+            "Writes the lists of archives down, a line each: the version, a tab, the list in the notation, and, where the spans of its \
+             tokens are not those that they have in this text, a tab and the spans. Words that are no tokens are a $ and the words in \
+             hexadecimal. `sorbrudder pack` makes the same archive of it again.",
+        ],
+        options: &[
+            args::flag(
+                "--json",
+                "a line of JSON for every list: file, list, version, text (where it is tokens) and words",
+            ),
+            GLOB,
+            JOBS,
+        ],
+        notes: &[],
+        takes: Takes::Files,
+        run: cat::run,
+    },
+    Command {
+        name: "pack",
+        usage: &["IN.. -o OUT"],
+        line: "an archive of lists that are written so",
+        about: &[
+            "Makes an archive of lists that are written down as `sorbrudder cat` does it, a line each, as text or as JSON, or by hand: a \
+             version, a blank and a list in the notation. Empty lines and lines that begin with # are passed over. An object of JSON needs \
+             a version, and words or a text. A line that is none of these ends it with 4, and nothing is written.",
+        ],
+        options: &[
+            args::with(
+                "-o",
+                Value::File("OUT"),
+                "the archive, or - for standard output",
+            ),
+            args::flag(
+                "--plain",
+                "a plain file of words instead of a container (docs/FORMAT.md)",
+            ),
+        ],
+        notes: &[],
+        takes: Takes::Files,
+        run: pack::run,
+    },
+    Command {
+        name: "salvage",
+        usage: &["IN -o OUT"],
+        line: "what is whole of a damaged archive",
+        about: &[
+            "Writes what is whole of a damaged archive, and tells which bytes are lost. In a container each list has its length and its \
+             checksum, so it goes on behind the damage; of a plain file of words what is before the damage is whole (docs/FORMAT.md). OUT \
+             has the format of IN. The status is 0 where nothing is lost, 1 where something is and OUT has the rest, and 4 where no list \
+             is whole, and nothing is written.",
+        ],
+        options: &[
+            args::with(
+                "-o",
+                Value::File("OUT"),
+                "the archive that is written, or - for standard output; never IN itself",
+            ),
+            args::flag(
+                "--json",
+                "a line of JSON for each place where bytes are lost: file, result (lost), start, end",
+            ),
+        ],
+        notes: &[],
+        takes: Takes::Files,
+        run: salvage::run,
+    },
+    Command {
+        name: "sum",
+        usage: &["REPORT.."],
+        line: "adds up the reports of several runs",
+        about: &[
+            "Adds up the summaries of several runs of one command, of shards or of several hosts (docs/SHARDS.md): what `--report` has \
+             written, or the lines of `--json`. A report that does not end with its summary was cut, and the status is 4. Else it is the \
+             highest of the runs.",
+        ],
+        options: &[args::flag(
+            "--json",
+            "the record that one run over everything would have ended with, and how many runs it was; it can be added up again",
+        )],
+        notes: &[],
+        takes: Takes::Files,
+        run: sum::run,
     },
     Command {
         name: "read",
@@ -280,7 +403,7 @@ pub const COMMANDS: &[Command] = &[
             SOURCE,
             args::flag(
                 "--json",
-                "one object: version, result, source, text, messages with number, start, end and text",
+                "one object: version, result, source, text, messages with number, start, end, line, column and text",
             ),
         ],
         notes: &[],
@@ -292,9 +415,12 @@ pub const COMMANDS: &[Command] = &[
         usage: &["FILE#N -o PAGE", "-e LIST -o PAGE"],
         line: "two trees side by side as a page for a browser",
         about: &[
-            "Writes a page with the trees of two versions side by side, the parts that differ marked, each node with the rule that paired \
-             its operands, and the source above them. The page is one file without scripts, and can be printed. It never takes the place \
-             of what it is drawn from.",
+            "Writes a page with the trees of two versions side by side, each node with the rule that paired its operands. The source \
+             stands above them with what each version pairs drawn under it as brackets. The operators that are paired otherwise have the \
+             number and the colour of their part, in the source, in the trees and before the sentences on it; the place of a message is \
+             marked where a version reads no tree. A node under the pointer, in focus or clicked shows its piece of the source, and a \
+             token its nodes. The page is one file that needs nothing from elsewhere, says all without its script, and can be printed. It \
+             never takes the place of what it is drawn from.",
         ],
         options: &[
             E,
@@ -309,6 +435,36 @@ pub const COMMANDS: &[Command] = &[
         notes: &[],
         takes: Takes::List,
         run: draw::run,
+    },
+    Command {
+        name: "report",
+        usage: &["PATH.. --to V -o PAGE"],
+        line: "all lists that version V reads otherwise as one page, grouped by the rule",
+        about: &[
+            "Writes one page on all lists of the archives that version V reads otherwise than their own: how many, and each with its text, \
+             both readings with brackets round what is paired otherwise, and the list as `lift` writes it, or why it stays behind. The \
+             lists stand in groups by the rule that changes them: nested conditionals, AND and OR, comparisons and equality.",
+            "The page is one file that needs nothing from elsewhere. It has a table of contents and a search (/ leads to it, arrows from \
+             list to list); without its script it has all lists, and each can be opened. What is open is printed in full. The status is \
+             that of `diff`: 1 where not all lists are read alike.",
+        ],
+        options: &[
+            TO_COMPARE,
+            args::with(
+                "-o",
+                Value::File("PAGE"),
+                "the page, or - for standard output; not a file or in a folder that it is about",
+            ),
+            args::value(
+                "--most",
+                "N",
+                "at most so many lists of each group, 10,000 being the usual; all are counted",
+            ),
+            GLOB,
+        ],
+        notes: &[],
+        takes: Takes::Files,
+        run: report::run,
     },
     Command {
         name: "ops",

@@ -4,13 +4,14 @@ use crate::args::Args;
 use crate::bracketed;
 use crate::check::{is_refused, note_words};
 use crate::failure::{Failure, Status};
-use crate::input::Input;
+use crate::helpers::{Helpers, Task};
+use crate::input::{Batch, Input, Listed};
 use crate::line::{About, Line, Place, Which};
 use crate::output;
 use crate::paths;
 use crate::rules;
-use crate::several::{self, Stdout, Teller};
-use sorbrudder::archive::List;
+use crate::several::{self, How, Sink as _, Stdout, Teller};
+use crate::summary;
 use sorbrudder::{ReadError, Reader, Rule, Tokens, Tree};
 use std::path::Path;
 
@@ -50,62 +51,111 @@ impl Found {
     }
 }
 
+/// Compares how lists are read at their own versions and at another.
+struct Diff {
+    to: i16,
+    is_json: bool,
+}
+
+impl Task for Diff {
+    type State = (Reader, Reader);
+    type Done = (Found, String);
+
+    fn state(&self) -> (Reader, Reader) {
+        (Reader::new(), Reader::new())
+    }
+
+    fn work(
+        &self,
+        (old, new): &mut (Reader, Reader),
+        file: &Path,
+        batch: &Batch,
+    ) -> (Found, String) {
+        let (mut found, mut text) = (Found::default(), String::new());
+        for list in batch.lists() {
+            let line = compare(old, new, list, self.to);
+            found.add(line.result);
+            let about = About::list(file, list);
+            if self.is_json {
+                text += &line.as_json(about);
+            } else if line.result != "same" {
+                text += &line.as_text(about);
+            }
+        }
+        (found, text)
+    }
+}
+
 pub fn run(args: &Args) -> Result<Status, Failure> {
     if args.rest.is_empty() {
         return Err(args.wrong("name the files or folders to compare"));
     }
-    let to = args.needed_version("--to")?;
-    let files = paths::files(&args.rest)?;
-    let is_json = args.has("--json");
-    let mut sum = Found::default();
+    let (to, is_json) = (args.needed_version("--to")?, args.has("--json"));
+    let task = &Diff { to, is_json };
+    let jobs = args.jobs()?;
+    let found = paths::find(args)?;
+    let (mut sum, mut read) = (Found::default(), 0);
     // Where nobody reads the lines to their end, the lists are read all the same: the status speaks of all of them.
     let mut stdout = Stdout {
         goes_on: true,
         is_closed: false,
     };
-    let diff = |file: &Path, teller: &mut Teller<Found>| diff_file(file, to, is_json, teller);
-    let status = several::each(&files, is_json, &mut stdout, diff, |found| sum.join(found))?;
+    let how = How {
+        task,
+        jobs,
+        is_json,
+    };
+    let status = several::each(&how, &found.files, &mut stdout, diff_file, |found| {
+        read += 1;
+        sum.join(found);
+    })?;
     output::tell(&format!(
         "{} lists at version {to}: {} read alike, {} otherwise, {} trees no longer, {} trees only then, {} no trees at all, {} refused",
         sum.lists, sum.same, sum.differ, sum.only_old, sum.only_new, sum.no_trees, sum.refused,
     ));
-    let found = if sum.same < sum.lists {
+    found.tell();
+    let is_found = sum.same < sum.lists;
+    let status = status.max(if is_found {
         Status::Found
     } else {
         Status::Well
-    };
-    Ok(status.max(found))
+    });
+    if is_json {
+        let counts = [
+            ("lists", sum.lists),
+            ("same", sum.same),
+            ("differ", sum.differ),
+            ("only_old", sum.only_old),
+            ("only_new", sum.only_new),
+            ("no_trees", sum.no_trees),
+            ("refused", sum.refused),
+        ];
+        let failed = found.files.len() as u64 - read;
+        let files = [found.files.len() as u64, failed, found.skipped];
+        stdout.text(&summary::record("diff", Some(to), files, &counts, status))?;
+    }
+    Ok(status)
 }
 
 fn diff_file(
     file: &Path,
-    to: i16,
-    is_json: bool,
     teller: &mut Teller<Found>,
+    helpers: &Helpers<'_, Diff>,
 ) -> Result<Found, Failure> {
     let mut input = Input::open(file)?;
     note_words(&input, teller);
-    let mut readers = [Reader::new(), Reader::new()];
-    let mut found = Found::default();
-    while let Some(list) = input.next_list()? {
-        let line = compare(&mut readers, &list, to);
-        found.add(line.result);
-        let about = About::list(file, &list);
-        if is_json {
-            teller.text(&line.as_json(about));
-        } else if line.result != "same" {
-            teller.text(&line.as_text(about));
-        }
-        if teller.is_closed() {
-            return Err(Failure::Closed);
-        }
-    }
-    Ok(found)
+    let mut sum = Found::default();
+    helpers.each(&mut input, |(found, text)| {
+        sum.join(found);
+        teller.text(&text);
+        teller.open()
+    })?;
+    Ok(sum)
 }
 
-fn compare(readers: &mut [Reader; 2], list: &List<'_>, to: i16) -> Line {
+/// The line about a list as its own version and another read it.
+pub fn compare(old: &mut Reader, new: &mut Reader, list: Listed<'_>, to: i16) -> Line {
     let from = list.version;
-    let [old, new] = readers;
     let read = (
         old.read_words(list.words, from),
         new.read_words(list.words, to),
@@ -122,7 +172,7 @@ fn compare(readers: &mut [Reader; 2], list: &List<'_>, to: i16) -> Line {
 }
 
 /// A list that is read otherwise is read again, so that the library says by which rules.
-fn otherwise(reader: &mut Reader, list: &List<'_>, to: i16) -> Line {
+fn otherwise(reader: &mut Reader, list: Listed<'_>, to: i16) -> Line {
     let from = list.version;
     let tokens = Tokens::from_words(list.words).unwrap_or_default();
     let read = [from, to].map(|version| reader.read_with_rules(&tokens, version));
@@ -155,8 +205,9 @@ fn differing((old, from): (&Tree, i16), (new, to): (&Tree, i16)) -> Line {
             op: one.op(),
             span: one.span(),
         });
-        line.reason = rule;
+        line.rule = rule;
     }
+    line.readings = lines.map(Some);
     line
 }
 
@@ -171,10 +222,15 @@ fn one_sided(
     let rule = rules::between(at, none_at, &made);
     let read = bracketed::line(tree.view(), None);
     let because = rule.map_or(String::new(), |rule| format!(": {rule}"));
+    let text = format!("{at} reads {read}, {none_at} no tree ({why}){because}");
     Line {
         result,
-        text: format!("{at} reads {read}, {none_at} no tree ({why}){because}"),
-        reason: rule,
+        text,
+        rule,
+        readings: match result {
+            "only-old" => [Some(read), None],
+            _ => [None, Some(read)],
+        },
         ..Line::of_read_error(why, Some(to))
     }
 }

@@ -167,6 +167,14 @@ impl Excerpt<'_> {
         text
     }
 
+    /// The line and the column at which a span begins, both from 1; none where it begins behind the text's end.
+    pub fn place(&self, span: Span) -> Option<(usize, usize)> {
+        let start = span.start() as usize;
+        let start = (start <= self.source.len()).then(|| floor(self.source, start))?;
+        let line = Line::at(self.source, start);
+        Some((line.number, line.column(start)))
+    }
+
     /// A line, and the signs under it.
     fn signed(&self, line: Line<'_>, start: usize, end: usize, margin: usize) -> String {
         let shown = Shown::of(line.text, line.byte(start), line.byte(end));

@@ -77,8 +77,13 @@ fn as_json(one: &OneList, version: i16, why: &ReadError, messages: &[Message]) -
         object
             .number("number", message.number())
             .number("start", message.span().start())
-            .number("end", message.span().end())
-            .text("text", &message.to_string());
+            .number("end", message.span().end());
+        if let Some((line, column)) = one.excerpt().place(message.span()) {
+            object
+                .number("line", line as u64)
+                .number("column", column as u64);
+        }
+        object.text("text", &message.to_string());
         object
     };
     let result = match why {

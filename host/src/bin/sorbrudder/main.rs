@@ -1,9 +1,10 @@
 //! The command `sorbrudder`: checks, compares, lifts, shows and draws archives of Molang token lists. `sorbrudder --help` says how.
 
-#![forbid(unsafe_code)]
+#![deny(unsafe_code)]
 
 mod args;
 mod bracketed;
+mod cat;
 mod check;
 mod commands;
 mod completions;
@@ -14,25 +15,37 @@ mod escape;
 mod excerpt;
 mod explain;
 mod failure;
+mod glob;
 mod help;
+mod helpers;
 mod input;
 mod json;
 mod lift;
 mod line;
+mod lock;
 mod man;
 mod nearest;
 mod one_list;
 mod ops;
 mod output;
-mod page;
+mod pack;
+mod pages;
+mod parse;
 mod paths;
 mod progress;
 mod read;
 mod replace;
+mod report;
 mod rules;
+mod salvage;
 mod several;
+mod sum;
+mod summary;
+#[allow(unsafe_code)]
+mod system;
 mod versions;
 mod width;
+mod written;
 
 use args::Args;
 use failure::{Failure, Status};
@@ -62,7 +75,11 @@ fn run(words: &[OsString]) -> Result<Status, Failure> {
     };
     let name = first.to_string_lossy();
     if name == "help" {
-        return help::print(rest.first().map(|word| word.to_string_lossy()).as_deref());
+        let mut names = rest.iter().filter(|word| !args::is_option(word));
+        return help::print(names.next().map(|word| word.to_string_lossy()).as_deref());
+    }
+    if args::is_option(first) {
+        return run_alone(std::slice::from_ref(first));
     }
     let Some(command) = commands::named(&name) else {
         return Err(help::unknown(&name));

@@ -46,8 +46,8 @@ pub fn between(one: i16, other: i16, rules: &[Rule]) -> Option<&'static str> {
     at_work.next().map(|change| change.text)
 }
 
-/// All rules by which two versions read trees that differ, both read with rules. Nodes that one rule makes never change how far the operands
-/// of another's reach, so a rule is at work where the reach of a node that it made is another.
+/// All rules by which two versions read trees that differ, both read with rules. Nodes that one rule makes never change how far the
+/// operands of another's reach, so a rule is at work where the reach of a node that it made is another.
 pub fn all_between((one, first): (i16, &Tree), (other, second): (i16, &Tree)) -> Vec<&'static str> {
     let at_work =
         changes(one, other).filter(|change| reaches(first, change) != reaches(second, change));
