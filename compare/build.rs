@@ -7,7 +7,7 @@ use std::env;
 use std::path::PathBuf;
 
 /// The programs that are run.
-const PROGRAMS: [&str; 3] = ["treelist", "everylist", "liftcount"];
+const PROGRAMS: [&str; 4] = ["treelist", "everylist", "liftcount", "lines"];
 
 fn main() {
     find_library();

@@ -103,7 +103,8 @@ enum sorbrudder_word {
     SORBRUDDER_WORD_CLOSE = 6
 };
 
-/* What a token carries: nothing, a number literal, a string's hash, or the number of a name that is the caller's own. */
+/* What a token carries: nothing, a number literal, or 32 bits that are the caller's own: the number of a name, or for HASH what stands for a
+   string. (A hash of 64 bits does not fit: number the strings, or take a part of the hash.) */
 enum sorbrudder_payload {
     SORBRUDDER_PAYLOAD_NONE = 0,
     SORBRUDDER_PAYLOAD_FLOAT = 1,

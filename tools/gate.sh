@@ -81,20 +81,21 @@ rust_tests() {
 step "every must-fail edit applies" tools/edits-apply.sh
 if command -v python3 >/dev/null; then
     step "every public function has two wrong programs" tools/wrong_programs.py
+    step "the page of what must be believed is as it would be written" tools/believed.py --check
 else
-    echo "gate: there is no python3: the wrong programs of the public functions were not counted"
+    echo "gate: there is no python3: the wrong programs of the public functions and what must be believed were not counted"
 fi
 
 prove
 
 # The library that the Rust crates link. Where it is not built, the host crate does not build either, and its tests count as failed.
 step "the static library" rt staticlib sorbrudder
-step "the prebuilt library is the one that is proved here" tools/prebuilt.sh --check
+step "the prebuilt library and programs are those that are proved here" tools/prebuilt.sh --check
 for crate in oracle compare host; do
     rust_tests "$crate"
 done
 
-step "the drawing in a browser" tools/browser.sh --if-there
+step "the pages in a browser" tools/browser.sh --if-there
 
 source=${MOLANGX_SRC:-../shared/docs/src}
 if [ ! -f "$source/src/compile/parse/mod.rs" ]; then
@@ -115,6 +116,8 @@ cargo clippy --version >/dev/null 2>&1 || clippy=
 for crate in sys host; do
     step "documentation of $crate" env RUSTDOCFLAGS="-D warnings" \
         cargo doc --manifest-path "$crate/Cargo.toml" --offline --no-deps --quiet
+done
+for crate in oracle sys compare host; do
     [ -z "$clippy" ] ||
         step "clippy on $crate" cargo clippy --manifest-path "$crate/Cargo.toml" --release --offline --all-targets --quiet -- -D warnings
 done

@@ -14,6 +14,13 @@ pub struct Program {
     path: PathBuf,
 }
 
+/// What a program wrote: to standard output and to standard error.
+#[derive(Debug, PartialEq, Eq)]
+pub struct Said {
+    pub printed: String,
+    pub complained: String,
+}
+
 impl Program {
     /// By the rule of build.rs.
     pub fn named(name: &str) -> Self {
@@ -67,6 +74,20 @@ impl Program {
         });
         assert!(done.status.success(), "{}", done.status);
         String::from_utf8(done.stdout).expect("it prints text")
+    }
+
+    /// What it says on standard error, and what it prints if its output is a pipe, with this input and this output.
+    pub fn run_between(&self, input: impl Into<Stdio>, output: impl Into<Stdio>) -> Said {
+        let mut command = Command::new(&self.path);
+        command.stdin(input).stdout(output).stderr(Stdio::piped());
+        let child = command.spawn().expect("the program starts");
+        let done = child.wait_with_output().expect("the program ends");
+        assert!(done.status.success(), "{}", done.status);
+        let text = |bytes| String::from_utf8(bytes).expect("it prints text");
+        Said {
+            printed: text(done.stdout),
+            complained: text(done.stderr),
+        }
     }
 
     /// How many seconds it takes to read an input from a file and to print what nobody reads.

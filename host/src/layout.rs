@@ -50,6 +50,38 @@ pub(crate) fn end_of(words: &[u32], number: usize) -> usize {
     end
 }
 
+/// What a node and all nodes below it cover of the source, and the number after the last of them.
+#[derive(Copy, Clone)]
+pub(crate) struct Extent {
+    pub start: u32,
+    pub end: u32,
+    pub last: usize,
+}
+
+/// The extents of all nodes of a tree's words.
+pub(crate) fn extents(words: &[u32]) -> Vec<Extent> {
+    let mut extents: Vec<Extent> = nodes(words)
+        .enumerate()
+        .map(|(number, node)| Extent {
+            start: node[1] & LOW,
+            end: (node[2] & LOW).max(close(node)),
+            last: number + 1,
+        })
+        .collect();
+    // The children of a node come after it, so from the back they are complete when it is met.
+    for (number, node) in nodes(words).enumerate().rev() {
+        let mut whole = extents[number];
+        for _ in 0..children(node) {
+            let child = extents[whole.last];
+            whole.start = whole.start.min(child.start);
+            whole.end = whole.end.max(child.end);
+            whole.last = child.last;
+        }
+        extents[number] = whole;
+    }
+    extents
+}
+
 /// The number of the node above this one; none above the root.
 pub(crate) fn parent_of(words: &[u32], number: usize) -> Option<usize> {
     // Going back, a node takes up as many of the nodes that have no parent yet as it has children.

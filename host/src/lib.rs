@@ -28,6 +28,7 @@
 #![warn(missing_docs)]
 
 pub mod archive;
+mod changes;
 mod differences;
 mod layout;
 mod lift;

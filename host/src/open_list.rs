@@ -2,16 +2,18 @@
 
 use crate::reader::Work;
 use crate::token::Token;
-use crate::{Limit, MOST_TOKENS, Messages, Refusal, Tokens, Tree};
+use crate::{Limit, MOST_TOKENS, Messages, Node, Refusal, Tokens, Tree, changes};
 use sorbrudder_sys::{Answer, HELD_WORDS, Held, Room};
 use std::fmt;
+use std::sync::atomic::{AtomicU64, Ordering};
 
 /// A list that an editor holds open while somebody types and the pack's version may rise under it. It owns its words and the buffers that
 /// it is read in.
 ///
 /// An edit is asked first: the answer says what the list would read as, and nothing held changes. What was asked is then committed. Every
-/// commit and every version change adds one to the list's edit count, and [`Asked`] knows the count at which it was asked, so an edit that
-/// was asked of another state of the list is turned back; where it is not, the list reads as was asked.
+/// commit and every version change adds one to the list's edit count, and [`Asked`] knows the count at which it was asked and the list that
+/// it was asked of, so an edit that was asked of another state of the list, or of another list, is turned back; where it is not, the list
+/// reads as was asked. A clone is another list.
 ///
 /// ```
 /// use sorbrudder::{Edit, EditError, OpenList, Tokens};
@@ -45,14 +47,50 @@ use std::fmt;
 /// ```
 ///
 /// Asking and committing take at most 84 KiB of stack in the library, opening 2 KiB, whatever the list.
-#[derive(Clone)]
 pub struct OpenList {
+    opening: Opening,
     held: Held,
     /// As many as the longest list has; those of the held list stand in front.
     words: Vec<u32>,
     limit: Limit,
     tree: Vec<u32>,
     work: Work,
+}
+
+/// Which list it is: no two open lists of a program have the same.
+#[derive(Copy, Clone, Debug, PartialEq, Eq)]
+struct Opening(u64);
+
+impl Opening {
+    fn next() -> Self {
+        // A program that opens a list each nanosecond comes round after five hundred years.
+        static NEXT: AtomicU64 = AtomicU64::new(0);
+        Self(NEXT.fetch_add(1, Ordering::Relaxed))
+    }
+}
+
+/// Another list with the same words: what was asked of the one is not committed to the other, since each goes its own way from here.
+///
+/// ```
+/// use sorbrudder::{Edit, EditError, OpenList, Tokens};
+///
+/// let list: Tokens = "a + b".parse().unwrap();
+/// let mut open = OpenList::open(&list, 6).unwrap();
+/// let asked = open.ask(Edit::remove(1, 2)).unwrap();
+/// assert_eq!(open.clone().commit(&asked), Err(EditError::OtherList));
+/// open.commit(&asked).unwrap();
+/// ```
+impl Clone for OpenList {
+    fn clone(&self) -> Self {
+        Self {
+            opening: Opening::next(),
+            held: self.held,
+            words: self.words.clone(),
+            limit: self.limit,
+            tree: self.tree.clone(),
+            work: self.work.clone(),
+        }
+    }
 }
 
 /// An edit of an open list.
@@ -93,6 +131,48 @@ impl Edit {
         }
     }
 
+    /// The edit of what somebody typed: it removes tokens of a list and puts in others, whose spans lie in the new text, and moves the
+    /// spans of all later tokens by `grown`, by how many bytes the text became longer (or shorter, below 0). It is one edit, so the list
+    /// never reads as if half of it were done.
+    ///
+    /// Where a later token's span would leave what a [`Span`](crate::Span) can be, it is [`EditError::SpanOutOfReach`], and where the list
+    /// has no such tokens [`EditError::PastTheEnd`].
+    ///
+    /// ```
+    /// use sorbrudder::{Edit, OpenList, Tokens};
+    ///
+    /// let (before, after): (Tokens, Tokens) = ("a + b * c".parse().unwrap(), "a + !x * c".parse().unwrap());
+    /// let mut open = OpenList::open(&before, 6).unwrap();
+    ///
+    /// // `b` becomes `!x`: one token goes, two come, and what stands behind them moves by a byte.
+    /// let edit = Edit::typed(&open.tokens(), 2, 1, &after[2..4], 1).unwrap();
+    /// let asked = open.ask(edit).unwrap();
+    /// open.commit(&asked).unwrap();
+    /// assert_eq!((open.tokens(), open.edits()), (after, 1));
+    /// ```
+    pub fn typed(
+        list: &[Token],
+        place: usize,
+        removed: usize,
+        put: impl Into<Tokens>,
+        grown: i64,
+    ) -> Result<Self, EditError> {
+        let later = place.checked_add(removed).ok_or(EditError::PastTheEnd)?;
+        let behind = list.get(later..).ok_or(EditError::PastTheEnd)?;
+        let mut put = put.into().into_vec();
+        for (number, token) in behind.iter().enumerate() {
+            let span = token.span.moved(grown);
+            let token = Token {
+                span: span.ok_or(EditError::SpanOutOfReach {
+                    token: later + number,
+                })?,
+                ..*token
+            };
+            put.push(token);
+        }
+        Ok(Self::replace(place, list.len() - place, put))
+    }
+
     /// The edit that puts in tokens and removes none.
     ///
     /// ```
@@ -119,7 +199,7 @@ impl Edit {
 
 /// An edit that was asked of an open list, with what the list would read as and the edit count at which that is so.
 ///
-/// It is committed to the list that was asked; of several asks at one edit count any one can be.
+/// It is committed to the list that was asked, and to no other; of several asks at one edit count any one can be.
 ///
 /// ```
 /// use sorbrudder::{Edit, OpenList, Tokens};
@@ -133,6 +213,7 @@ impl Edit {
 /// ```
 #[derive(Clone, Debug, PartialEq, Eq)]
 pub struct Asked {
+    opening: Opening,
     edit: Edit,
     seen: u32,
     reading: Result<Tree, Messages>,
@@ -205,6 +286,8 @@ pub enum EditError {
         /// The first token of that list, counted from 0, with which more brackets are open than the limit. It opens one.
         token: usize,
     },
+    /// The edit was asked of another open list; of a clone too. Told before all others.
+    OtherList,
     /// The list has another edit count than the one at which the edit was asked: something else was committed, or a version adopted.
     OtherEditCount {
         /// The edit count at which the edit was asked.
@@ -214,6 +297,11 @@ pub enum EditError {
     },
     /// The edit's place, or what it removes, is past the list's end.
     PastTheEnd,
+    /// A later token's span would leave what a span can be ([`Edit::typed`]).
+    SpanOutOfReach {
+        /// The token, counted from 0 in the list before the edit.
+        token: usize,
+    },
     /// The list's edit count is 4,294,967,295: nothing more is committed and no version adopted.
     LastEdit,
 }
@@ -226,11 +314,15 @@ impl fmt::Display for EditError {
                 f,
                 "too deep: with token {token} more brackets are open than the limit allows"
             ),
+            Self::OtherList => write!(f, "the edit was asked of another list"),
             Self::OtherEditCount { seen, edits } => write!(
                 f,
                 "the list changed after the edit was asked: its edit count was {seen} and is {edits}"
             ),
             Self::PastTheEnd => write!(f, "the edit is past the list's end"),
+            Self::SpanOutOfReach { token } => {
+                write!(f, "the span of token {token} would be moved out of reach")
+            }
             Self::LastEdit => write!(f, "the list's edit count has no next one"),
         }
     }
@@ -266,6 +358,7 @@ impl OpenList {
     /// ```
     pub fn open_within(limit: Limit, tokens: &[Token], version: i16) -> Result<Self, EditError> {
         let mut open = Self {
+            opening: Opening::next(),
             held: Held::default(),
             words: vec![0; HELD_WORDS],
             limit,
@@ -390,13 +483,14 @@ impl OpenList {
         let seen = self.held.edits;
         self.accepted(answer, seen)?;
         Ok(Asked {
+            opening: self.opening,
             edit,
             seen,
             reading: self.reading(answer),
         })
     }
 
-    /// Makes an edit that was asked, unless the list has changed since.
+    /// Makes an edit that was asked of this list, unless the list has changed since.
     ///
     /// ```
     /// use sorbrudder::{Edit, OpenList, Tokens};
@@ -410,12 +504,64 @@ impl OpenList {
     /// assert!(open.commit(&asked).is_err());
     /// ```
     pub fn commit(&mut self, asked: &Asked) -> Result<(), EditError> {
+        if asked.opening != self.opening {
+            return Err(EditError::OtherList);
+        }
         let (edit, seen) = (&asked.edit, asked.seen);
         let put = edit.put.words();
         let answer = self.lend(self.tokens_with(edit), |held, words, room| {
             sorbrudder_sys::commit(held, seen, words, edit_of(edit, &put), room)
         });
         self.accepted(answer, seen)
+    }
+
+    /// The nodes of what was asked that the list as it is does not read so: those of tokens that are new, and those that are paired
+    /// otherwise, with another parent or other children, or that close elsewhere. It is what an editor has to draw anew; what is not among
+    /// them stands in the tree as before, at the same place or moved with the text ([`Edit::typed`]).
+    ///
+    /// None are given where the list would be no tree, and all where it is none now. [`Tree::differences`] compares two trees from the
+    /// root on, and where two nodes differ goes no deeper; this compares every node by itself.
+    ///
+    /// ```
+    /// use sorbrudder::{Edit, OpenList, Tokens};
+    ///
+    /// // `d * e` becomes `d + e`: the `+` is new, and stands above all; what was under the `*` hangs elsewhere. `d` is still the operand
+    /// // of its sign, and the brackets with what is in them, and their product with `c`, are as they were.
+    /// let (before, after): (Tokens, Tokens) = ("(a + b) * c - d * e".parse()?, "(a + b) * c - d + e".parse()?);
+    /// let mut open = OpenList::open(&before, 6)?;
+    /// let asked = open.ask(Edit::replace(9, 1, &after[9..10]))?;
+    /// let changed = open.changes(&asked)?;
+    /// let parts = changed.iter().map(|node| node.span().of("(a + b) * c - d + e").unwrap());
+    /// assert_eq!(parts.collect::<Vec<_>>(), ["+", "-", "-", "e"]);
+    /// # Ok::<(), Box<dyn std::error::Error>>(())
+    /// ```
+    pub fn changes<'a>(&mut self, asked: &'a Asked) -> Result<Vec<Node<'a>>, EditError> {
+        self.is_of_now(asked)?;
+        let Ok(new) = &asked.reading else {
+            return Ok(Vec::new());
+        };
+        let Ok(old) = self.read() else {
+            return Ok(new.nodes().collect());
+        };
+        let (before, edit) = (self.tokens(), &asked.edit);
+        let mut after = before.to_vec();
+        after.splice(
+            edit.place..edit.place + edit.removed,
+            edit.put.iter().copied(),
+        );
+        Ok(changes::between((&before, &old), (&after, new)))
+    }
+
+    /// Whether an edit was asked of this list as it is now.
+    fn is_of_now(&self, asked: &Asked) -> Result<(), EditError> {
+        if asked.opening != self.opening {
+            return Err(EditError::OtherList);
+        }
+        let (seen, edits) = (asked.seen, self.held.edits);
+        match seen == edits {
+            true => Ok(()),
+            false => Err(EditError::OtherEditCount { seen, edits }),
+        }
     }
 
     /// Adopts the rules of a version. Nothing is read: [`OpenList::read`] says what the list is now.

@@ -61,6 +61,20 @@ impl Span {
         self.end
     }
 
+    /// The span moved by so many bytes, unless it would leave what a span can be.
+    ///
+    /// ```
+    /// use sorbrudder::Span;
+    ///
+    /// let span = Span::new(3, 7).unwrap();
+    /// assert_eq!((span.moved(2), span.moved(-3)), (Span::new(5, 9), Span::new(0, 4)));
+    /// assert_eq!((span.moved(-4), span.moved(i64::MAX)), (None, None));
+    /// ```
+    pub fn moved(self, by: i64) -> Option<Self> {
+        let place = |byte: u32| i64::from(byte).checked_add(by)?.try_into().ok();
+        Self::new(place(self.start)?, place(self.end)?)
+    }
+
     /// What stands there in a text, if the span lies in it.
     ///
     /// ```
@@ -77,7 +91,7 @@ impl fmt::Display for Span {
     }
 }
 
-/// What a token carries. The numbers are indices into names that are the caller's own, or a hash.
+/// What a token carries. The numbers are the caller's own: indices into its names, or what stands for a string.
 ///
 /// Two payloads are equal where their bits are, so a float that is no number equals itself.
 ///
@@ -94,7 +108,7 @@ pub enum Payload {
     None,
     /// A number literal.
     Float(f32),
-    /// A string literal's hash.
+    /// What stands for a string literal: an index, or 32 bits of its hash.
     Hash(u32),
     /// The name of a `context.` variable.
     Context(u32),

@@ -322,6 +322,46 @@ impl Tree {
         self.view().node(number)
     }
 
+    /// The deepest node at a byte of the source: of all nodes whose part of it ([`Node::subtree_span`]) has that byte the one that lies
+    /// deepest, and of several such nodes beside each other the first. None where no node is there.
+    ///
+    /// A blank between an operator and its operand belongs to the operator, a bracket to its section. A caret stands between two bytes:
+    /// for the one behind a token, ask for the byte before it.
+    ///
+    /// ```
+    /// use sorbrudder::{Reader, Tokens};
+    ///
+    /// let source = "a + (b * c)";
+    /// let list: Tokens = source.parse().unwrap();
+    /// let tree = Reader::new().read(&list, 6).unwrap();
+    /// let at = |offset| tree.node_at(offset).map(|node| node.op().text());
+    /// assert_eq!([at(0), at(1), at(2)], [Some("float"), Some("+"), Some("+")]);
+    /// assert_eq!([at(4), at(5), at(7), at(10)], [Some("("), Some("float"), Some("*"), Some("(")]);
+    /// assert_eq!(at(11), None);
+    /// let product = tree.node_at(7).unwrap();
+    /// assert_eq!(product.subtree_span().of(source), Some("b * c"));
+    /// ```
+    pub fn node_at(&self, offset: u32) -> Option<Node<'_>> {
+        self.view().node_at(offset)
+    }
+
+    /// The nodes at a byte of the source, each below the one before it: the root first, [`Tree::node_at`] last. It is what an editor
+    /// selects when somebody asks for more and more round the caret.
+    ///
+    /// ```
+    /// use sorbrudder::{Reader, Tokens};
+    ///
+    /// let source = "a + (b * c)";
+    /// let list: Tokens = source.parse().unwrap();
+    /// let tree = Reader::new().read(&list, 6).unwrap();
+    /// let parts = tree.path_at(5).into_iter().map(|node| node.subtree_span().of(source).unwrap());
+    /// assert_eq!(parts.collect::<Vec<_>>(), ["a + (b * c)", "(b * c)", "b * c", "b"]);
+    /// assert!(tree.path_at(11).is_empty());
+    /// ```
+    pub fn path_at(&self, offset: u32) -> Vec<Node<'_>> {
+        self.view().path_at(offset)
+    }
+
     /// All nodes in preorder.
     ///
     /// ```

@@ -135,6 +135,46 @@ impl<'w> TreeRef<'w> {
         }
     }
 
+    /// The deepest node at a byte of the source, as [`Tree::node_at`].
+    ///
+    /// ```
+    /// use sorbrudder::{Reader, Tokens};
+    ///
+    /// let list: Tokens = "!a".parse().unwrap();
+    /// let mut reader = Reader::new();
+    /// assert_eq!(reader.read_words(&list.words(), 6).unwrap().node_at(1).unwrap().number(), 1);
+    /// ```
+    pub fn node_at(self, offset: u32) -> Option<Node<'w>> {
+        self.path_at(offset).pop()
+    }
+
+    /// The nodes at a byte of the source from the root on, as [`Tree::path_at`].
+    ///
+    /// ```
+    /// use sorbrudder::{Reader, Tokens};
+    ///
+    /// let list: Tokens = "!a".parse().unwrap();
+    /// let mut reader = Reader::new();
+    /// assert_eq!(reader.read_words(&list.words(), 6).unwrap().path_at(1).len(), 2);
+    /// ```
+    pub fn path_at(self, offset: u32) -> Vec<Node<'w>> {
+        let extents = layout::extents(self.words);
+        let has = |number: usize| (extents[number].start..extents[number].end).contains(&offset);
+        let mut path = Vec::new();
+        let mut next = Some(0).filter(|root| has(*root));
+        while let Some(number) = next {
+            let node = Node::new(self, number);
+            path.push(node);
+            let mut child = number + 1;
+            next = (0..node.child_count()).find_map(|_| {
+                let here = child;
+                child = extents[here].last;
+                has(here).then_some(here)
+            });
+        }
+        path
+    }
+
     /// A tree with words of its own.
     ///
     /// ```

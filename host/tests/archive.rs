@@ -152,3 +152,34 @@ fn a_list_longer_than_any_is_damage() {
     let mut writer = ListsWriter::new(Vec::new(), Format::Words).expect("it takes all");
     assert!(writer.write(0, &[0]).is_err(), "it would be two lists");
 }
+
+#[test]
+fn what_a_writer_finishes_a_reader_reads() {
+    // Lists of few words, of which some are no tokens, some empty, and some of version 0.
+    let mut seed = 1u64;
+    let mut below = |bound: u64| {
+        seed = seed.wrapping_mul(6_364_136_223_846_793_005).wrapping_add(1);
+        (seed >> 33) % bound
+    };
+    let (mut written, mut refused) = (0, 0);
+    for _ in 0..2_000 {
+        let format = [Format::Words, Format::Container][below(2) as usize];
+        let mut writer = ListsWriter::new(Vec::new(), format).expect("bytes");
+        let (mut kept, mut wrong) = (Kept::new(), false);
+        for _ in 0..below(24) {
+            let version = below(4) as i16 / 3;
+            let len = [0, 0, 0, 0, 5, 10, 3][below(7) as usize];
+            let words: Vec<u32> = (0..len).map(|_| (below(6) as u32 + 1) << 29 | 7).collect();
+            wrong |= writer.write(version, &words).is_err();
+            kept.push((version, words));
+        }
+        match writer.finish() {
+            Ok((bytes, _)) if !wrong => {
+                written += 1;
+                assert_eq!(read(&bytes).expect("whole"), kept);
+            }
+            _ => refused += 1,
+        }
+    }
+    assert!(written > 500 && refused > 100, "{written}, {refused}");
+}

@@ -4,6 +4,7 @@ mod common;
 
 use common::command::{Run, archive, command, folder, run};
 use sorbrudder::archive::{Format, ListsWriter};
+use std::io::Write as _;
 use std::path::{Path, PathBuf};
 use std::process::{Command, Stdio};
 use std::time::{Duration, Instant};
@@ -236,16 +237,54 @@ fn where_the_file_cannot_grow_the_old_one_is_whole() {
 }
 
 #[test]
-fn what_a_killed_run_has_left_is_passed_by() {
+fn what_a_killed_run_has_left_is_removed_by_the_next() {
     let folder = folder("left");
-    let (_, new) = old_and_new(&folder, 10);
+    let (old, new) = old_and_new(&folder, 10);
     // The shell becomes the command, which has the shell's number then.
     let lifted = run_after(&folder, "echo left > .sorbrudder-$$-0.tmp", &IN_PLACE);
     assert_eq!(lifted.status, Some(0), "{lifted:?}");
     assert!(std::fs::read(folder.join("big")).expect("the file is there") == new);
-    let left = left_over(&folder);
-    assert_eq!(left.len(), 1, "{left:?}");
-    assert_eq!(std::fs::read(&left[0]).expect("a file"), b"left\n");
+    assert_eq!(left_over(&folder), [] as [PathBuf; 0]);
+    // Killed by the system in the midst of a write, and then run again on another file of the folder.
+    std::fs::write(folder.join("big"), &old).expect("a file");
+    let killed = run_after(&folder, "ulimit -f 0", &IN_PLACE);
+    assert_eq!(killed.status, None, "{killed:?}");
+    assert_eq!(left_over(&folder).len(), 1);
+    for other in [".sorbrudder-1.tmp", ".sorbrudder-a-1.tmp", ".sorbrudder"] {
+        std::fs::write(folder.join(other), "another's").expect("a file");
+    }
+    let again = run(&folder, &["lift", "new", "-o", "newer", "--to", "6"]);
+    assert_eq!(again.status, Some(0), "{again:?}");
+    // Only what the command itself has left is removed.
+    assert_eq!(left_over(&folder).len(), 2, "{:?}", left_over(&folder));
+    assert!(folder.join(".sorbrudder").exists());
+}
+
+#[test]
+fn what_a_run_at_work_writes_is_not_removed_by_another() {
+    let folder = folder("at_work");
+    let (old, new) = old_and_new(&folder, 1_000);
+    let mut child = command();
+    child
+        .current_dir(&folder)
+        .args(["lift", "-", "-o", "streamed", "--to", "6"])
+        .stdin(Stdio::piped())
+        .stdout(Stdio::null())
+        .stderr(Stdio::null());
+    let mut child = child.spawn().expect("it runs");
+    let mut input = child.stdin.take().expect("a pipe");
+    input.write_all(&old[..1_000]).expect("it reads");
+    while left_over(&folder).is_empty() {
+        std::thread::sleep(Duration::from_millis(1));
+    }
+    assert_eq!(run(&folder, &IN_PLACE).status, Some(0));
+    assert_eq!(left_over(&folder).len(), 1);
+    input.write_all(&old[1_000..]).expect("it reads");
+    drop(input);
+    assert_eq!(child.wait().expect("it ends").code(), Some(0));
+    let streamed = std::fs::read(folder.join("streamed")).expect("a file");
+    assert!(streamed == new);
+    assert_eq!(left_over(&folder), [] as [PathBuf; 0]);
 }
 
 /// Runs a shell's lines where file systems can be mounted; none where the system does not allow it, which is said.
@@ -314,6 +353,9 @@ fn a_device_that_is_full_and_a_folder_that_cannot_be_written_are_status_3() {
     for target in ["no/such/folder/new", "/proc/new"] {
         let failed = run(&folder, &["lift", "big", "-o", target, "--to", "6"]);
         assert_eq!(failed.status, Some(3), "{failed:?}");
+        // It is told of by the name that was given.
+        let told = format!("sorbrudder: {target}: no file can be written beside it: ");
+        assert!(failed.err.contains(&told), "{}", failed.err);
     }
     assert!(std::fs::read(folder.join("big")).expect("the file is there") == old);
 }
@@ -350,6 +392,7 @@ fn memory_does_not_grow_with_the_file() {
         ],
         &["check", "many", "--json"],
         &["diff", "many", "many", "--to", "6", "--json"],
+        &["diff", "many", "--to", "6", "--json", "-j", "4"],
     ];
     for words in runs {
         let mut child = command();

@@ -122,7 +122,8 @@ version 6   no tree
     let json = shown(&["explain", "--json", "--at", "6", "-e", "a b"]);
     let head = r#"{"version":6,"result":"no-tree","source":"a b","#;
     let text = "2 parts are left that no operator joins";
-    let message = format!(r#"{{"number":1,"start":0,"end":3,"text":"{text}"}}"#);
+    let message =
+        format!(r#"{{"number":1,"start":0,"end":3,"line":1,"column":1,"text":"{text}"}}"#);
     let object = format!(r#"{head}"text":"{text} (at 0-3)","messages":[{message}]}}"#);
     assert_eq!(json.trim_end(), object);
 }
@@ -182,12 +183,10 @@ fn a_list_of_an_archive_is_shown_by_its_number() {
 
 #[test]
 fn every_rule_that_makes_a_difference_is_named() {
-    let folder = folder("named_rules");
-    // Without their first letter, which is a capital on the page.
     let rules = [
-        "elow version 5 every",
-        "p to version 5",
-        "elow version 6 the comparisons",
+        "below version 5 every",
+        "up to version 5",
+        "below version 6 the comparisons",
     ];
     for (list, named) in [
         ("a ? b : c ? d : e", [true, false, false]),
@@ -202,45 +201,7 @@ fn every_rule_that_makes_a_difference_is_named() {
     ] {
         let text = shown(&["versions", "-e", list]);
         assert_eq!(rules.map(|rule| text.contains(rule)), named, "{text}");
-        let draw = ["draw", "-e", list, "--at", "4,6", "-o", "page.html"];
-        assert_eq!(run(&folder, &draw).status, Some(0));
-        let page = std::fs::read_to_string(folder.join("page.html")).expect("a page");
-        assert_eq!(rules.map(|rule| page.contains(rule)), named, "{page}");
     }
-}
-
-#[test]
-fn the_page_marks_what_differs_and_needs_nothing_else() {
-    let folder = folder("page");
-    let list = "x < 3 + (a && b || c)";
-    let draw = run(
-        &folder,
-        &["draw", "-e", list, "--at", "5,6", "-o", "page.html"],
-    );
-    assert_eq!(draw.status, Some(0), "{draw:?}");
-    let page = std::fs::read_to_string(folder.join("page.html")).expect("a page");
-    assert!(
-        page.contains("x &lt; 3 + (<mark>a &amp;&amp; b || c</mark>)"),
-        "{page}"
-    );
-    assert_eq!(page.matches("class=\"node differs\"").count(), 10);
-    assert_eq!(page.matches("class=\"node\"").count(), 10);
-    for (rule, count) in [("AND", 2), ("OR", 2), ("comparison", 2), ("section", 2)] {
-        let made = format!("<span class=\"made\"> [{rule}]</span>");
-        assert_eq!(page.matches(&made).count(), count, "{rule}");
-    }
-    for outside in ["<script", "http:", "https:", "src=", "@import", "url("] {
-        assert!(!page.contains(outside), "{outside}");
-    }
-    let streamed = run(&folder, &["draw", "-e", list, "--at", "5,6", "-o", "-"]);
-    assert_eq!(streamed.out, page);
-    let deep = format!("{}a{}", "(".repeat(2_000), ")".repeat(2_000));
-    let draw = run(&folder, &["draw", "-e", &deep, "-o", "deep.html"]);
-    assert_eq!(draw.status, Some(0), "{draw:?}");
-    let size = std::fs::metadata(folder.join("deep.html"))
-        .expect("a page")
-        .len();
-    assert!(size < 4_000_000, "{size}");
 }
 
 #[test]
@@ -260,7 +221,7 @@ fn help_is_help() {
     }
     let all = run("--help").out;
     for command in [
-        "check", "diff", "lift", "read", "versions", "explain", "draw", "ops",
+        "check", "diff", "lift", "read", "versions", "explain", "draw", "report", "ops",
     ] {
         let help = run(&format!("{command} --help"));
         assert!(
@@ -286,6 +247,10 @@ fn wrong_words_are_told() {
         "read",
         "draw -e a",
         "draw -e a --at 4 -o x",
+        "report x --to 6",
+        "report x -o y",
+        "report --to 6 -o y",
+        "report x --to 6 -o y --most many",
         "ops x",
     ] {
         let wrong = run_line(Path::new("."), line);
@@ -342,6 +307,18 @@ fn a_closed_pipe_ends_it_quietly() {
             half.status.is_some_and(|status| status < 2),
             "{words:?}: {half:?}"
         );
+    }
+    // What was found is still in the status, whatever is read of it; no command calls bad lists all well.
+    for (words, status) in [
+        (&["check", "many"][..], 1),
+        (&["check", "--json", "many"], 1),
+        (&["diff", "many", "--to", "5"], 1),
+        (&["diff", "--json", "many", "--to", "5"], 1),
+        (&["check", "--json", "many", "missing"], 3),
+        (&["ops"], 0),
+    ] {
+        let half = run_half_read(&folder, words);
+        assert_eq!(half.status, Some(status), "{words:?}: {half:?}");
     }
     // An archive that was not read to its end is cut, which a script should know, and nobody has to be told.
     let lifted: Vec<(i16, &str)> = vec![(5, "a && b || c"); 20_000];

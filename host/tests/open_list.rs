@@ -226,3 +226,32 @@ fn a_list_is_edited_on_128_kib_of_stack() {
     let ran = thread.spawn(run).expect("a thread").join();
     assert_eq!(ran.expect("nothing panics"), Ok(2_049));
 }
+
+#[test]
+fn what_was_asked_of_one_list_is_not_committed_to_another() {
+    let open = |text: &str| OpenList::open(&tokens(text), 6).expect("a list");
+    let (mut one, mut two) = (open("a + b * c"), open("a - b - c"));
+    let asked = one.ask(Edit::remove(3, 2)).expect("an edit");
+    assert_eq!(asked.reading().map(Tree::to_string), Ok("9(a,b)".into()));
+    // The other list has the same edit count, and would read otherwise than was asked.
+    assert_eq!((one.edits(), two.edits()), (0, 0));
+    assert_eq!(two.commit(&asked), Err(EditError::OtherList));
+    assert_eq!((two.tokens(), two.edits()), (tokens("a - b - c"), 0));
+    // It is told before another edit count.
+    two.adopt(5).expect("a version");
+    assert_eq!(two.commit(&asked), Err(EditError::OtherList));
+    // Opened again with the same words it is another list too, and so is a clone, from which on each goes its own way.
+    assert_eq!(open("a + b * c").commit(&asked), Err(EditError::OtherList));
+    let mut copy = one.clone();
+    assert_eq!(copy.commit(&asked), Err(EditError::OtherList));
+    let other = copy.ask(Edit::remove(1, 2)).expect("an edit");
+    assert_eq!(one.commit(&other), Err(EditError::OtherList));
+    copy.commit(&other).expect("its own");
+    one.commit(&asked).expect("its own");
+    let late = copy.ask(Edit::remove(1, 2)).expect("an edit");
+    assert_eq!((one.edits(), late.seen()), (1, 1));
+    assert_eq!(one.commit(&late), Err(EditError::OtherList));
+    assert_eq!(one.read().as_ref(), asked.reading());
+    let told = EditError::OtherList.to_string();
+    assert_eq!(told, "the edit was asked of another list");
+}

@@ -4,16 +4,18 @@
 mod common;
 
 use common::command::folder;
+use sorbrudder::archive::{Format, ListsWriter};
+use std::io::Write as _;
 use std::os::unix::fs::PermissionsExt as _;
 use std::path::{Path, PathBuf};
-use std::process::{Command, Output};
+use std::process::{Command, Output, Stdio};
 
 fn root() -> PathBuf {
     Path::new(env!("CARGO_MANIFEST_DIR")).join("..")
 }
 
 /// What make and the tools of the project call.
-const TOOLS: &str = "make sh bash env find uname tr sha256sum dirname touch mkdir cp cmp wc cat sed head install echo";
+const TOOLS: &str = "make sh bash env find uname tr sha256sum dirname touch mkdir cp cmp wc cat sed head install echo rm chmod grep";
 
 /// Where a program is.
 fn found(tool: &str) -> Option<PathBuf> {
@@ -67,12 +69,27 @@ impl Project {
         std::fs::write(path, text).expect("a file");
     }
 
-    /// An rt that notes each call and writes a library.
-    fn with_rt(&self) {
-        let script = "#!/bin/sh\necho \"$*\" >> rt.log\nmkdir -p target/staticlib\necho proved > target/staticlib/libsorbrudder.a\n";
-        self.write("bin/rt", script);
+    /// A script of the shell.
+    fn script(&self, path: &str, text: &str) {
+        self.write(path, &format!("#!/bin/sh\n{text}"));
         let executable = std::fs::Permissions::from_mode(0o755);
-        std::fs::set_permissions(self.folder.join("bin/rt"), executable).expect("a file");
+        std::fs::set_permissions(self.folder.join(path), executable).expect("a file");
+    }
+
+    /// An rt that notes each call and writes a library, or the programs that it is to check.
+    fn with_rt(&self) {
+        let script = "\
+echo \"$*\" >> rt.log
+if [ \"$1\" = check ]; then
+    shift
+    mkdir -p target/bin
+    for name; do echo \"proved $name\" > \"target/bin/$name\"; done
+    exit
+fi
+mkdir -p target/staticlib
+echo proved > target/staticlib/libsorbrudder.a
+";
+        self.script("bin/rt", script);
     }
 
     fn calls(&self) -> usize {
@@ -163,6 +180,30 @@ fn a_prebuilt_library_is_used_without_rt_and_compared_with_it() {
     assert!(!check(&project));
     std::fs::write(&library, "proved\n").expect("a file");
     assert!(check(&project));
+    // And so is another program, one that is not there, and one without its checksum.
+    let folder = std::fs::read_dir(project.folder.join("prebuilt")).expect("a folder");
+    let folder = folder.map(|entry| entry.expect("an entry").path()).next();
+    let folder = folder.expect("the system's folder");
+    for name in ["everylist", "liftcount", "treelist"] {
+        let prebuilt = folder.join(name);
+        let text = std::fs::read_to_string(&prebuilt).expect("a program");
+        assert_eq!(text, format!("proved {name}\n"));
+        let proved = project.folder.join("target/bin").join(name);
+        std::fs::write(&proved, "proved otherwise\n").expect("a file");
+        assert!(!check(&project), "{name}");
+        std::fs::write(&proved, &text).expect("a file");
+        std::fs::remove_file(&prebuilt).expect("a file");
+        assert!(!check(&project), "{name}");
+        std::fs::write(&prebuilt, &text).expect("a file");
+        let sums = folder.join("SHA256SUMS");
+        let all = std::fs::read_to_string(&sums).expect("the checksums");
+        let others = all.lines().filter(|line| !line.ends_with(name));
+        let others: String = others.map(|line| format!("{line}\n")).collect();
+        std::fs::write(&sums, others).expect("a file");
+        assert!(!check(&project), "{name}");
+        std::fs::write(&sums, all).expect("a file");
+        assert!(check(&project));
+    }
     std::fs::remove_file(project.folder.join("bin/rt")).expect("a file");
     std::fs::remove_dir_all(project.folder.join("target")).expect("a folder");
     let without = project.make(&["library"]);
@@ -174,36 +215,157 @@ fn a_prebuilt_library_is_used_without_rt_and_compared_with_it() {
     );
 }
 
+/// The files under a folder, by name.
+fn files(folder: &Path) -> Vec<PathBuf> {
+    let mut files = Vec::new();
+    for entry in std::fs::read_dir(folder).into_iter().flatten() {
+        let path = entry.expect("an entry").path();
+        match path.is_dir() {
+            true => files.extend(self::files(&path)),
+            false => files.push(path),
+        }
+    }
+    files.sort();
+    files
+}
+
 #[test]
-fn installing_puts_everything_under_the_prefix() {
+fn installing_puts_everything_under_the_prefix_and_uninstalling_takes_it_away() {
     let project = Project::new("install");
     project.with_rt();
-    assert!(project.make(&["library"]).status.success());
-    project.write("host/target/release/sorbrudder", "a command");
+    assert!(project.make(&["library", "programs"]).status.success());
+    project.script("host/target/release/sorbrudder", "echo \"says $*\"\n");
     let staged = project.folder.join("stage");
-    let staged = staged.to_str().expect("text");
-    let installed = project.run("tools/install.sh", &[staged, "/opt/sorb"]);
+    let words = [staged.to_str().expect("text"), "/opt/sorb"];
+    let installed = project.run("tools/install.sh", &words);
     assert!(installed.status.success(), "{}", told(&installed));
-    let at = |path: &str| std::fs::read_to_string(format!("{staged}/opt/sorb/{path}"));
-    assert_eq!(at("bin/sorbrudder").expect("the command"), "a command");
-    assert_eq!(at("lib/libsorbrudder.a").expect("the library"), "proved\n");
-    assert!(
-        at("include/sorbrudder.h")
-            .expect("the header")
-            .contains("sorbrudder_parse")
-    );
-    let package = at("lib/pkgconfig/sorbrudder.pc").expect("the package");
+    let to = staged.join("opt/sorb");
+    let at = |path: &str| std::fs::read_to_string(to.join(path)).unwrap_or_default();
+    assert!(at("bin/sorbrudder").contains("echo \"says $*\""));
+    assert_eq!(at("bin/treelist"), "proved treelist\n");
+    assert_eq!(at("lib/libsorbrudder.a"), "proved\n");
+    assert!(at("include/sorbrudder.h").contains("sorbrudder_parse"));
+    assert_eq!(at("share/man/man1/sorbrudder.1"), "says man\n");
+    for (path, shell) in [
+        ("share/bash-completion/completions/sorbrudder", "bash"),
+        ("share/zsh/site-functions/_sorbrudder", "zsh"),
+        ("share/fish/vendor_completions.d/sorbrudder.fish", "fish"),
+    ] {
+        assert_eq!(at(path), format!("says completions {shell}\n"));
+    }
+    let package = at("lib/pkgconfig/sorbrudder.pc");
     assert!(package.starts_with("prefix=/opt/sorb\n"), "{package}");
     assert!(
         package.contains(&format!("\nVersion: {}\n", env!("CARGO_PKG_VERSION"))),
         "{package}"
     );
+    let mode = |path: &str| {
+        std::fs::metadata(to.join(path))
+            .expect("a file")
+            .permissions()
+            .mode()
+            & 0o777
+    };
+    assert_eq!(
+        (mode("bin/everylist"), mode("share/man/man1/sorbrudder.1")),
+        (0o755, 0o644)
+    );
+    // All that is there was told, and all of it is taken away again, and nothing else.
+    let there = files(&to);
+    assert_eq!(there.len(), 11, "{there:?}");
+    for file in &there {
+        let file = file.strip_prefix(&to).expect("under it").display();
+        assert!(told(&installed).contains(&format!(" {file}")), "{file}");
+    }
+    let own = to.join("bin/other");
+    std::fs::write(&own, "another's").expect("a file");
+    let words = [
+        "uninstall",
+        &format!("DESTDIR={}", words[0]),
+        "PREFIX=/opt/sorb",
+    ];
+    let removed = project.make(&words);
+    assert!(removed.status.success(), "{}", told(&removed));
+    assert_eq!(files(&to), [own]);
 }
 
-/// The build script of `sys`, run by hand with a folder that has no library.
 #[test]
-fn a_wrong_folder_for_the_library_is_told_as_such() {
-    let folder = folder("build_script");
+fn installing_without_rt_takes_what_is_prebuilt() {
+    let project = Project::new("install_prebuilt");
+    project.with_rt();
+    assert!(project.make(&["prebuilt"]).status.success());
+    std::fs::remove_file(project.folder.join("bin/rt")).expect("a file");
+    std::fs::remove_dir_all(project.folder.join("target")).expect("a folder");
+    project.script("host/target/release/sorbrudder", "echo \"says $*\"\n");
+    let staged = project.folder.join("stage");
+    let words = [staged.to_str().expect("text"), "/usr"];
+    let installed = project.run("tools/install.sh", &words);
+    assert!(installed.status.success(), "{}", told(&installed));
+    for name in ["everylist", "liftcount", "treelist"] {
+        let text = std::fs::read_to_string(staged.join("usr/bin").join(name));
+        assert_eq!(text.expect("a program"), format!("proved {name}\n"));
+    }
+}
+
+/// The programs of `prebuilt/`, run as README.md runs them.
+#[test]
+fn the_prebuilt_programs_run_without_rt() {
+    let system = format!("{}-{}", std::env::consts::ARCH, std::env::consts::OS);
+    let prebuilt = root().join("prebuilt").join(system);
+    if !prebuilt.is_dir() {
+        return;
+    }
+    let sums = Command::new("sha256sum")
+        .args(["--check", "--quiet", "SHA256SUMS"])
+        .current_dir(&prebuilt)
+        .output()
+        .expect("it runs");
+    assert!(sums.status.success(), "{}", told(&sums));
+    let words = |words: &[u32]| {
+        words
+            .iter()
+            .flat_map(|word| word.to_le_bytes())
+            .collect::<Vec<u8>>()
+    };
+    let run = |name: &str, input: &[u8]| {
+        let mut child = Command::new(prebuilt.join(name))
+            .stdin(Stdio::piped())
+            .stdout(Stdio::piped())
+            .spawn()
+            .expect("it runs");
+        let mut stdin = child.stdin.take().expect("a pipe");
+        stdin.write_all(input).expect("it reads");
+        drop(stdin);
+        String::from_utf8(child.wait_with_output().expect("it ends").stdout).expect("text")
+    };
+    let five = run("everylist", &words(&[5, 5, 61, 56, 57]));
+    let six = run("everylist", &words(&[6, 5, 61, 56, 57]));
+    assert!(five.starts_with("list") && five != six, "{five}");
+    let list = |version: i16, text: &str| {
+        (
+            version,
+            text.parse::<sorbrudder::Tokens>().expect("the notation"),
+        )
+    };
+    let lists = [
+        list(4, "a ? b : c ? d : e"),
+        list(4, "a + b"),
+        list(4, "a b"),
+    ];
+    let mut writer = ListsWriter::new(words(&[4, 5]), Format::Words).expect("bytes");
+    for (version, list) in &lists {
+        writer.write(*version, &list.words()).expect("bytes");
+    }
+    let counted = run("liftcount", &writer.finish().expect("bytes").0);
+    assert_eq!(
+        counted.split_whitespace().collect::<Vec<_>>(),
+        ["3", "1", "1", "0", "1"]
+    );
+    assert!(!run("treelist", &words(&[5])).is_empty());
+}
+
+/// The build script of `sys`, compiled to be run by hand, as if the crate lay in a folder.
+fn build_script(folder: &Path) -> PathBuf {
     let script = folder.join("build");
     std::fs::create_dir(folder.join("sys")).expect("a folder");
     let sys = root().join("sys");
@@ -217,6 +379,90 @@ fn a_wrong_folder_for_the_library_is_told_as_such() {
         .output()
         .expect("a compiler");
     assert!(compiled.status.success(), "{}", told(&compiled));
+    script
+}
+
+/// What an archive is told to be, of which there is no knowing what its entries take.
+#[test]
+fn another_archive_is_called_by_its_own_signature_or_refused() {
+    let folder = folder("build_before");
+    let script = build_script(&folder);
+    let system = format!("{}-{}", std::env::consts::ARCH, std::env::consts::OS);
+    let archive = root().join("prebuilt").join(system).join("libsorbrudder.a");
+    if !archive.is_file() || found("objcopy").is_none() {
+        return;
+    }
+    let before = |name: &str, hidden: &[&str], header: Option<&str>| {
+        let other = folder.join(name);
+        std::fs::create_dir(&other).expect("a folder");
+        if name != "none" {
+            let mut copy = Command::new("objcopy");
+            copy.args(
+                hidden
+                    .iter()
+                    .map(|entry| format!("--redefine-sym=sorbrudder_{entry}=no_{entry}")),
+            );
+            copy.arg(&archive).arg(other.join("libsorbrudder.a"));
+            assert!(copy.status().expect("it runs").success());
+        }
+        if let Some(header) = header {
+            std::fs::write(other.join("sorbrudder.h"), header).expect("a file");
+        }
+        let mut run = Command::new(&script);
+        run.env("SORBRUDDER_BEFORE", &other).env("OUT_DIR", &folder);
+        run.env("CARGO_CFG_TARGET_ARCH", "x86_64")
+            .env("CARGO_CFG_TARGET_OS", "linux");
+        let run = run.output().expect("it runs");
+        let (is_linked, told) = (run.status.success(), told(&run));
+        let cfgs = told
+            .lines()
+            .filter_map(|line| line.strip_prefix("cargo::rustc-cfg="));
+        assert_eq!(is_linked, cfgs.clone().any(|cfg| cfg == "before"), "{told}");
+        let is_limited = !cfgs.clone().any(|cfg| cfg == "before_without_limit");
+        (is_linked, is_linked && is_limited, told)
+    };
+    // One that has the entry with rules came after the limit; of an older one its header says it.
+    let header = std::fs::read_to_string(root().join("include/sorbrudder.h")).expect("a file");
+    let without = header.replace(", uint32_t limit);", ");");
+    for (name, hidden, header, linked, limited) in [
+        ("now", &[][..], None, true, true),
+        ("now_with_header", &[], Some(without.as_str()), true, true),
+        (
+            "old_limited",
+            &["parse_rules"],
+            Some(header.as_str()),
+            true,
+            true,
+        ),
+        ("old", &["parse_rules"], Some(without.as_str()), true, false),
+        ("unknown", &["parse_rules"], None, false, false),
+        (
+            "strange",
+            &["parse_rules"],
+            Some("nothing is declared"),
+            false,
+            false,
+        ),
+        ("no_write", &["write"], None, false, false),
+        ("none", &[], None, false, false),
+    ] {
+        let (is_linked, is_limited, told) = before(name, hidden, header);
+        assert_eq!((is_linked, is_limited), (linked, limited), "{name}: {told}");
+        let why = match name {
+            "unknown" | "strange" => "not called by another signature than its own",
+            "no_write" => "exports no sorbrudder_write",
+            "none" => "there is no libsorbrudder.a",
+            _ => "",
+        };
+        assert!(told.contains(why), "{name}: {told}");
+    }
+}
+
+/// The build script of `sys` with a folder that has no library.
+#[test]
+fn a_wrong_folder_for_the_library_is_told_as_such() {
+    let folder = folder("build_script");
+    let script = build_script(&folder);
     let advice = |library: Option<&str>| {
         let mut run = Command::new(&script);
         run.env("CARGO_CFG_TARGET_ARCH", "x86_64")

@@ -150,23 +150,6 @@ unsafe extern "C" {
     fn sorbrudder_adopt(version: *mut i16, edits: *mut u32, to: i16) -> u64;
 }
 
-/// The parse entry, of this library or of the one before it.
-type ParseEntry = unsafe extern "C" fn(
-    *const u32,
-    usize,
-    *mut u32,
-    usize,
-    *mut u32,
-    usize,
-    *mut u32,
-    usize,
-    u64,
-    i16,
-    u64,
-    u64,
-    u32,
-) -> u64;
-
 /// An entry that makes words of words: the write entry, of this library or of the one before it, and export and import.
 type WordsEntry = unsafe extern "C" fn(*const u32, usize, *mut u32, usize) -> u64;
 
@@ -263,7 +246,24 @@ pub struct Room<'b> {
 /// Reads a list's words.
 #[inline]
 pub fn parse(lent: Lent<'_>, given: Given) -> Answer {
-    parse_by(sorbrudder_parse, lent, given)
+    // SAFETY: each slice is passed with its own length, the borrows keep them apart, and the entry keeps none of them.
+    Answer::of(unsafe {
+        sorbrudder_parse(
+            lent.list.as_ptr(),
+            lent.list.len(),
+            lent.tree.as_mut_ptr(),
+            lent.tree.len(),
+            lent.messages.as_mut_ptr(),
+            lent.messages.len(),
+            lent.work.as_mut_ptr(),
+            lent.work.len(),
+            given.source_len,
+            given.version,
+            given.used.0,
+            given.used.1,
+            given.limit,
+        )
+    })
 }
 
 /// Reads a list's words as [`parse`] does. Of a tree the front of `rules` is filled too: a byte for each node in tree order, 0 for a leaf,
@@ -409,28 +409,6 @@ pub fn adopt(held: &mut Held, version: i16) -> Answer {
 }
 
 #[inline]
-fn parse_by(entry: ParseEntry, lent: Lent<'_>, given: Given) -> Answer {
-    // SAFETY: each slice is passed with its own length, the borrows keep them apart, and the entry keeps none of them.
-    Answer::of(unsafe {
-        entry(
-            lent.list.as_ptr(),
-            lent.list.len(),
-            lent.tree.as_mut_ptr(),
-            lent.tree.len(),
-            lent.messages.as_mut_ptr(),
-            lent.messages.len(),
-            lent.work.as_mut_ptr(),
-            lent.work.len(),
-            given.source_len,
-            given.version,
-            given.used.0,
-            given.used.1,
-            given.limit,
-        )
-    })
-}
-
-#[inline]
 fn words_by(entry: WordsEntry, words: &[u32], output: &mut [u32]) -> Answer {
     // SAFETY: both slices are passed with their own lengths, the borrows keep them apart, and the entry keeps neither.
     Answer::of(unsafe {
@@ -443,8 +421,8 @@ fn words_by(entry: WordsEntry, words: &[u32], output: &mut [u32]) -> Answer {
     })
 }
 
-/// The library before this one, as `build.rs` renamed its entries. A node may have fewer words in it, and it may take no limit: the caller
-/// of a C function puts its arguments away itself, so one that is not asked for is not looked at.
+/// The library before this one, as `build.rs` renamed its entries, each called as it is declared in its own header: an older one takes no
+/// nesting limit, and reads as under the greatest. `build.rs` refuses an archive of which it is not known what its entries take.
 #[cfg(before)]
 pub mod before {
     use super::{Answer, Given, Lent};
@@ -464,7 +442,7 @@ pub mod before {
                 version: i16,
                 used_low: u64,
                 used_high: u64,
-                limit: u32,
+                #[cfg(not(before_without_limit))] limit: u32,
             ) -> u64;
             pub fn sorbrudder_before_write(
                 tree: *const u32,
@@ -478,7 +456,25 @@ pub mod before {
     /// Reads a list's words as the library before did.
     #[inline]
     pub fn parse(lent: Lent<'_>, given: Given) -> Answer {
-        super::parse_by(renamed::sorbrudder_before_parse, lent, given)
+        // SAFETY: each slice is passed with its own length, the borrows keep them apart, and the entry keeps none of them.
+        Answer::of(unsafe {
+            renamed::sorbrudder_before_parse(
+                lent.list.as_ptr(),
+                lent.list.len(),
+                lent.tree.as_mut_ptr(),
+                lent.tree.len(),
+                lent.messages.as_mut_ptr(),
+                lent.messages.len(),
+                lent.work.as_mut_ptr(),
+                lent.work.len(),
+                given.source_len,
+                given.version,
+                given.used.0,
+                given.used.1,
+                #[cfg(not(before_without_limit))]
+                given.limit,
+            )
+        })
     }
 
     /// Writes a tree's words as the library before did.

@@ -65,7 +65,7 @@ pub fn lengths(list: &[u32], sizes: Sizes) -> Accepted
 }
 
 // Whether a nesting limit is in its range.
-fn is_limit(limit: u32) -> bool
+pub fn is_limit(limit: u32) -> bool
     ensures { λ r. ⌜ r ≡ isLimit limit ⌝ }
 {
     1 <= limit && limit <= MOST_LIMIT
@@ -109,8 +109,8 @@ fn token_words(list: &[u32], n: usize) -> Accepted
 }
 
 // Answer 18: the brackets of n tokens against the limit. No more can be open than there are tokens, so a list no longer than the limit
-// is not looked at.
-fn nesting(list: &[u32], n: usize, limit: u32) -> Accepted
+// is not looked at. The callers have counted them.
+pub fn nesting(list: &[u32], n: usize, limit: u32) -> Accepted
     requires { ⌜ (length (now list) ≡ 5 * n) × (n ≤ 4096) ⌝ }
     ensures { λ r. ⌜ verdictOf r ≡ verdict n (nestingRefusal limit (now (list .entry))) ⌝ }
 {

@@ -1,4 +1,4 @@
--- The laws that the proofs of several functions share, and what all steps print.
+-- The laws that the proofs of several functions share, and what all steps print, and the whole of a run.
 pub mod PartLaws
 pub mod NumberLaws
 pub mod HeadLaws
@@ -6,3 +6,4 @@ pub mod KeptLaws
 pub mod ListLaws
 pub mod StepLaws
 pub mod Prints
+pub mod InputLaws

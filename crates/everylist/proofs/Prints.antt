@@ -42,7 +42,7 @@ most-lists letters n few short =
 
 module _ (k : Kept) where
   -- Behind the last position there is nothing.
-  behind : (n position : ℕ) → textAt k position ≡ none → textsFrom n k position ≡ []
+  pub behind : (n position : ℕ) → textAt k position ≡ none → textsFrom n k position ≡ []
   unfolding textsFrom
   behind zero position e = refl
   behind (suc n) position e = rw (e, textsFrom) refl

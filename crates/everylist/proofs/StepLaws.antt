@@ -1,16 +1,17 @@
 -- What a step lays, by the case: the refusal's line, the text of a list, or nothing.
 use Prim.Native.Nat.{ℕ, _/_, _≤_}
-use mathlib.Core.{Path.{_≡_, refl, sym, subst}, Bool.{Bool, true}, List.{List, []}, Option.{Option, none, some}}
+use mathlib.Core.{Path.{_≡_, refl, ap, sym, subst}, Bool.{Bool, true}, List.{List, []}, Option.{Option, none, some}}
 use native.Mathlib.Omega.{arith}
 use lib.{IntN.{ℤ}, ListN.{length, take, drop, getD, replicate}}
 use borrow.Author.Tests.{eq-eqb, ne-eqb, lt-ltb, le-ltb, le-leb}
 use Rattle.molang.specs.{FirstFailure.{must, firstOf}, Lines.{versionOf}, Parse.{refused}, Words.{row}}
+use Rattle.text.proofs.TextLaws.{wrote-front}
 use Rattle.listing.specs.Rows.{answerText}
 use Rattle.shortlists.{specs.ShortLists.{upTo, countRefusal}, proofs.AlphabetLaws.{alphabet}, proofs.ShortLists.{only}}
 use Rattle.shortlists.specs.Answers as Answers
 use Rattle.everylist.specs.EveryList.{refusalLine}
 use Rattle.everylist.specs.Steps.{Kept, kept, keptWords, keptLists, keptFault, textBy, textAt, Stepped, wordsText}
-use Rattle.everylist.specs.{declared.step.Step.{Step}, declared.step.Step.the-variants.{Text}}
+use Rattle.everylist.specs.{declared.step.Step.{Step}, declared.step.Step.the-variants.{Text, Done}}
 use Rattle.everylist.proofs.{KeptLaws.{Unturned}, ListLaws.{past-last, at-position, all-legal, words-text}}
 
 -- A step by an equal text; and one that lays a text, which has room, at a position that has one.
@@ -24,6 +25,21 @@ stepped-room o a b r n e s = by o (subst (λ (r : Step). Stepped o a r b) e s)
     by : (o : Option (List ℕ)) → Stepped o a (Text n) b → (n ≤ length b) × (o ≡ none → ⊥)
     by (some text) s = (s .0, λ e. absurd (let z : _≡_ {A = ℕ} 0 1 = cc in omega arith))
     by none s = absurd s
+
+-- What was laid is the text, and where nothing was there is none.
+pub stepped-text : (o : Option (List ℕ)) (a b : List ℕ) (r : Step) (n : ℕ) → r ≡ Text n → Stepped o a r b → o ≡ some (take n b)
+stepped-text o a b r n e s = by o (subst (λ (r : Step). Stepped o a r b) e s)
+  where
+    by : (o : Option (List ℕ)) → Stepped o a (Text n) b → o ≡ some (take n b)
+    by (some text) s = ap some (sym (wrote-front (s .1)))
+    by none s = absurd s
+
+pub stepped-done : (o : Option (List ℕ)) (a b : List ℕ) (r : Step) → r ≡ Done → Stepped o a r b → o ≡ none
+stepped-done o a b r e s = by o (subst (λ (r : Step). Stepped o a r b) e s)
+  where
+    by : (o : Option (List ℕ)) → Stepped o a Done b → o ≡ none
+    by (some text) s = absurd s
+    by none s = refl
 
 -- THE REFUSAL'S LINE. What the answer's buffers hold does not matter.
 pub refused-first : (number position : ℕ) (k : Kept) (tree messages : List ℕ) → position ≡ 0

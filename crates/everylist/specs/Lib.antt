@@ -1,3 +1,4 @@
 -- What the program prints, as definitions.
 pub mod EveryList
 pub mod Steps
+pub mod Input

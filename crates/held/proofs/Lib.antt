@@ -5,3 +5,4 @@ pub mod KeepLaws
 pub mod CallLaws
 pub mod History
 pub mod Running
+pub mod Witnesses

@@ -15,6 +15,7 @@ nothing = record { place = 0; removed = 0; put = [] }
 pub record SameLent (a b : Lent) : Type 0 where
   pub tree : length (a .tree) ≡ length (b .tree)
   pub messages : length (a .messages) ≡ length (b .messages)
+  -- What they hold may differ.
   pub work : length (a .work) ≡ length (b .work)
   pub limit : a .limit ≡ b .limit
 

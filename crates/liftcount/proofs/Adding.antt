@@ -5,10 +5,10 @@ use mathlib.Core.{Path.{_≡_, refl, _∙_}, Bool.{Bool, true, false, not}, List
 use native.Mathlib.{Nat.{add-zero}, Omega.{arith}}
 use lib.{Dec.{ltb}, IntN.{ℤ}, ListN.{length}}
 use borrow.Author.Tests.{lt-ltb}
-use Rattle.molang.specs.{Forest.{nil, node}, Words.{treeWords}, Read.{Answer, tree, messages}}
+use Rattle.molang.specs.{Forest.{nil, node}, Words.{treeWords}, Read.{Answer, tree, messages}, Lift.{eqWords, areSame}}
 use Rattle.own.specs.Own.{readingOf}
 use Rattle.liftcount.specs.declared.run.Counts.{Counts}
-use Rattle.liftcount.specs.Counting.{eqWords, areSame, areDifferent, oneHasMessages, bothHaveMessages, sameTree, differentTrees}
+use Rattle.liftcount.specs.Counting.{areDifferent, oneHasMessages, bothHaveMessages, sameTree, differentTrees}
 use Rattle.liftcount.specs.{Counting.{messageAtOne, messageAtBoth, howMany}, Running.{more, moreIf, counted}}
 
 -- One where a test holds.

@@ -2,10 +2,10 @@
 use Prim.Native.Nat.{ℕ}
 use mathlib.Core.{Path.{_≡_, refl}, Bool.{Bool, true, false, not}, List.{List}, Option.{Option, none, some}}
 use lib.IntN.{ℤ}
-use Rattle.molang.specs.{Forest.{nil, node}, Words.{Refusal, treeWords}, Read.{Answer, tree, messages}}
+use Rattle.molang.specs.{Forest.{nil, node}, Words.{Refusal, treeWords}, Read.{Answer, tree, messages}, Lift.{eqWords, areSame}}
 use Rattle.own.specs.Own.{readingOf}
 use Rattle.liftcount.specs.{declared.run.Counts.{Counts}, declared.close.Ending.the-variants.{Counted}}
-use Rattle.liftcount.specs.Counting.{eqWords, areSame, areDifferent, oneHasMessages, bothHaveMessages, sameTree, differentTrees}
+use Rattle.liftcount.specs.Counting.{areDifferent, oneHasMessages, bothHaveMessages, sameTree, differentTrees}
 use Rattle.liftcount.specs.{Counting.{messageAtOne, messageAtBoth}, Running.{more, moreIf, counted}}
 use Rattle.liftcount.specs.Judging.{treesBy, verdictOn, judged, talliedBy, endedBy}
 

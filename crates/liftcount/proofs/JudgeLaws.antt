@@ -1,46 +1,19 @@
--- What a list comes to at both versions: words beside each other, one by one; the trees in two buffers; the checks before the reading.
+-- What a list comes to at both versions: the trees in two buffers; the checks before the reading.
 -- Assumes nothing.
-use Prim.Native.Nat.{ℕ, suc, _+_, _*_, _/_, _%_, _≤_, _<_}
-use mathlib.Core.{Path.{_≡_, refl, ap, sym, _∙_}, Bool.{true, false, and-false}, List.{List, [], _∷_}, Option.{Option, none, some}}
-use native.Mathlib.{Numerals.{add-one}, Omega.{arith}}
-use lib.{Dec.{eqb}, IntN.{ℤ}, ListN.{length, take, drop, getD}, Seq.{drop-cons, drop-length, take-at}}
+use Prim.Native.Nat.{ℕ, _*_, _/_, _%_, _≤_, _<_}
+use mathlib.Core.{Path.{_≡_, refl}, List.{List}, Option.{Option, none, some}}
+use native.Mathlib.Omega.{arith}
+use lib.{Dec.{eqb}, IntN.{ℤ}, ListN.{length, take, drop}, Seq.{take-at}}
 use borrow.Author.Tests.{eq-eqb, ne-eqb, eqb-true, eqb-false, le-leb, lt-leb}
 use Rattle.molang.specs.{FirstFailure.{must, firstOf}, Forest.{Forest, nil, node, size}}
 use Rattle.molang.specs.{Words.{Refusal, operatorField, wordsRefusal, tokensOf, treeWords}, Read.{Answer, tree, messages}}
-use Rattle.molang.specs.Parse.{told, inFront, treeIn}
+use Rattle.molang.specs.{Parse.{told, inFront, treeIn}, Lift.{eqWords}}
 use Rattle.molang.proofs.{Booleans.{either}, Bounds.{Bounded, fewNodes, fewMessages, read-bounded, treeWords-length}}
 use Rattle.molang.proofs.{FirstFailure.{last-one}, ListWords.{tokens-count}}
 use Rattle.derived.specs.Derived.{named, highest}
-use Rattle.own.specs.Own.{readingOf}
-use Rattle.liftcount.specs.{declared.judge.Verdict.the-variants.{Refused, Different}, Counting.{eqWords}, Running.{openFault}}
+use Rattle.own.{specs.Own.{readingOf}, proofs.BesideLaws.{counts-differ}}
+use Rattle.liftcount.specs.{declared.judge.Verdict.the-variants.{Refused, Different}, Running.{openFault}}
 use Rattle.liftcount.specs.Judging.{treesBy, verdictOn, judged, Holds, treesTold, verdictTold}
-
--- WORDS BESIDE EACH OTHER, one by one
-module _ (xs ys : List ℕ) (i : ℕ) where
-  pub words-equal : i < length xs → i < length ys → getD xs i 0 ≡ getD ys i 0
-      → eqWords (drop i xs) (drop i ys) ≡ eqWords (drop (i + 1) xs) (drop (i + 1) ys)
-  unfolding eqWords
-  words-equal h k e =
-      rw (add-one i, drop-cons xs i 0 h, drop-cons ys i 0 k, eq-eqb (getD xs i 0) (getD ys i 0) e) refl
-
-  pub words-differ : i < length xs → i < length ys → (getD xs i 0 ≡ getD ys i 0 → ⊥) → eqWords (drop i xs) (drop i ys) ≡ false
-  unfolding eqWords
-  words-differ h k e = rw (drop-cons xs i 0 h, drop-cons ys i 0 k, ne-eqb (getD xs i 0) (getD ys i 0) e) refl
-
-  pub words-end : length xs ≡ i → length ys ≡ i → eqWords (drop i xs) (drop i ys) ≡ true
-  unfolding eqWords
-  words-end h k = rw (
-    ap (λ (n : ℕ). drop n xs) (sym h) ∙ drop-length xs,
-    ap (λ (n : ℕ). drop n ys) (sym k) ∙ drop-length ys,
-  ) refl
-
--- Words of another count differ.
-counts-differ : (xs ys : List ℕ) → (length xs ≡ length ys → ⊥) → eqWords xs ys ≡ false
-unfolding eqWords
-counts-differ [] [] h = absurd (h refl)
-counts-differ [] (y ∷ ys) h = refl
-counts-differ (x ∷ xs) [] h = refl
-counts-differ (x ∷ xs) (y ∷ ys) h = rw (counts-differ xs ys (λ e. h (ap suc e))) (and-false (eqb x y))
 
 -- TWO TREES in front of their buffers.
 tree-front : (f : Forest) (n : ℕ) (buffer : List ℕ) → n ≡ size f → take (7 * n) (inFront (treeWords f) buffer) ≡ treeWords f

@@ -1,10 +1,10 @@
 -- That the text stands for the whole input: what the run prints at the end of an input is what is printed for it, whatever the chunks that
--- it came in.
+-- it came in (`stands`), and so is what `read_input` came to (`reached-came`, `came-prints`).
 use Prim.Native.Nat.{ℕ, suc, _+_, _*_, _%_, _^_, _≤_, _<_}
-use mathlib.Core.{Path.{_≡_, refl, ap, sym, _∙_}, Bool.{Bool, true, false}, List.{List, [], _∷_, flatten, foldl}}
+use mathlib.Core.{Path.{_≡_, refl, ap, sym, _∙_}, Bool.{Bool, true, false}, List.{List, [], _∷_, _++_, append-nil, flatten, foldl}}
 use mathlib.Core.Option.{Option, none, some}
 use native.Mathlib.{Nat.{zero-add}, Omega.{arith}}
-use lib.{Dec.{eqb}, IntN.{ℤ}, ListN.{length, getD}}
+use lib.{Dec.{eqb}, IntN.{ℤ}, ListN.{length, take, getD}}
 use Rattle.molang.specs.{FirstFailure.{must, firstOf}, Words.{Refusal, row}, Lines.{versionOf}}
 use Rattle.molang.proofs.FirstFailure.{after-none}
 use Rattle.listing.specs.Lists.{wordsIn}
@@ -12,7 +12,8 @@ use Rattle.liftcount.specs.{declared.run.Stage.{Stage}, declared.run.Sta
 use Rattle.liftcount.specs.declared.run.Counts.{Counts}
 use Rattle.liftcount.specs.Counting.{opens, Cut, cut, listsIn, isVersion, begins, firstFault, inputFault, countText, refusalLine}
 use Rattle.liftcount.specs.Counting.{printed}
-use Rattle.liftcount.specs.{Running.{Progress, wordTaken, byteTaken, fed, started, linesOf, progressText, endText}, Steps.{afterWord}}
+use Rattle.liftcount.specs.Running.{Progress, wordTaken, State, byteTaken, fed, started, linesOf, progressText, endText}
+use Rattle.liftcount.specs.Steps.{Reached, Came, afterWord}
 use Rattle.liftcount.proofs.{ByteLaws.{withWord, fed-four, fed-chunks}, Adding.{countedAll, counted-all}}
 use Rattle.liftcount.proofs.Cutting.{wordsTaken, textOf, refused-stays, cut-opened, cut-few, lineOr, outcome, run-on}
 
@@ -184,3 +185,13 @@ stands input few chunks e list size =
     ∙ fed-bytes (atStage list First) input
     ∙ printed-by input (atStage list First) (from-start list (omega arith) (wordsIn input) (omega (arith, words-few input)))
     (eqb (length input % 4) 0) refl
+
+-- WHAT CHUNKS LED TO is what a whole input leads to, and what is printed then is what is printed for that input.
+pub reached-came : (list space : List ℕ) (last : ℕ) (s : State) → length list ≡ 640 → Reached list space last s → Came s
+reached-came list space last s room r =
+    record { list = list; room = room; input = r .before ++ take last space; few = r .few; is = r .is }
+
+pub came-prints : (s : State) (c : Came s) → endText s ≡ printed (c .input)
+unfolding flatten
+came-prints s c =
+    ap endText (c .is) ∙ stands (c .input) (omega (arith, c .few)) (c .input ∷ []) (append-nil (c .input)) (c .list) (c .room)

@@ -13,6 +13,7 @@ use Rattle.molang.specs.Words.{Refusal, row, kindOf, treeWords}
 use Rattle.molang.specs.Read.{Answer, tree, messages}
 use Rattle.molang.specs.Parse.{refused}
 use Rattle.molang.specs.Lines.{versionOf}
+use Rattle.molang.specs.Lift.{eqWords, areSame}
 use Rattle.text.specs.Text.{numbered, lineEnd}
 use Rattle.listing.specs.Rows.{answerText}
 use Rattle.own.specs.Own.{readingOf}
@@ -47,20 +48,6 @@ unfoldable pub listsIn : List ℕ → List (List ℕ)
 listsIn words = cut (drop 2 words) .lists
 
 -- ---- What a list comes to at two versions
-
--- Two lists of words are equal.
-unfoldable pub eqWords : List ℕ → List ℕ → Bool
-eqWords [] [] = true
-eqWords [] (b ∷ bs) = false
-eqWords (a ∷ as') [] = false
-eqWords (a ∷ as') (b ∷ bs) = eqb a b && eqWords as' bs
-
--- Two trees, every word equal.
-unfoldable pub areSame : Answer → Answer → Bool
-areSame (tree k cs) (tree l ds) = eqWords (treeWords (node k cs nil)) (treeWords (node l ds nil))
-areSame (tree k cs) (messages ms) = false
-areSame (messages ms) (tree l ds) = false
-areSame (messages ms) (messages ns) = false
 
 -- Two trees, some word different.
 unfoldable pub areDifferent : Answer → Answer → Bool

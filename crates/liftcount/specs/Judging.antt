@@ -10,12 +10,12 @@ use Rattle.molang.specs.Forest.{nil, node}
 use Rattle.molang.specs.Words.{Refusal, treeWords}
 use Rattle.molang.specs.Read.{Answer, tree as Answer·tree, messages as Answer·messages}
 use Rattle.molang.specs.Parse.{Told, aTree, someMessages, refused}
+use Rattle.molang.specs.Lift.{eqWords}
 use Rattle.liftcount.specs.declared.run.Counts.{Counts}
 use Rattle.liftcount.specs.declared.judge.Verdict.{Verdict}
 use Rattle.liftcount.specs.declared.judge.Verdict.the-variants.{Refused as Verdict·Refused, Same, Different, One, Both}
 use Rattle.liftcount.specs.declared.close.Ending.{Ending}
 use Rattle.liftcount.specs.declared.close.Ending.the-variants.{Refused as Ending·Refused, Counted}
-use Rattle.liftcount.specs.Counting.{eqWords}
 use Rattle.liftcount.specs.Running.{more}
 
 -- ---- Two answers

@@ -1,24 +1,41 @@
 -- What the code's steps come to, by their parts: the stage after a word, how the next list opens, what an ending prints; and what chunks
 -- lead to.
-use Prim.Native.Nat.{ℕ}
-use mathlib.Core.List.{List}
+use Prim.Native.Nat.{ℕ, _^_, _<_}
+use mathlib.Core.Path.{_≡_}
+use mathlib.Core.List.{List, _++_}
 use lib.IntN.{ℤ}
+use lib.ListN.{length, take}
 use Rattle.liftcount.specs.declared.run.Stage.{Stage}
 use Rattle.liftcount.specs.declared.run.Stage.the-variants.{InList, Refused}
 use Rattle.liftcount.specs.declared.run.Counts.{Counts}
 use Rattle.liftcount.specs.declared.close.Ending.{Ending}
 use Rattle.liftcount.specs.declared.close.Ending.the-variants.{Refused as Ending·Refused, Counted}
-use Rattle.liftcount.specs.Counting.{refusalLine}
+use Rattle.liftcount.specs.Counting.{refusalLine, printed}
 use Rattle.liftcount.specs.Running.{State, Progress, fed, started, linesOf}
 
 -- What whole words came to, by its parts.
 abbrev pub atStage : Stage → Counts → List ℕ → Progress
 atStage stage counts list = record { stage = stage; counts = counts; list = list }
 
--- What the program holds after chunks of an input, whatever they are, from where it starts with a list's buffer.
-pub data Reached (list : List ℕ) : State → Type 0 where
-  atStart : Reached list (started list)
-  onward : {s : State} → Reached list s → (chunk : List ℕ) → Reached list (fed s chunk)
+-- WHAT CHUNKS OF AN INPUT LEAD TO, from where the program starts with a list's buffer: some bytes, and behind them those that came last,
+-- which lie in front of the space. No input of 2 ^ 57 bytes is read.
+pub record Reached (list space : List ℕ) (last : ℕ) (s : State) : Type 0 where
+  pub before : List ℕ
+  pub few : length (before ++ take last space) < 2 ^ 57
+  pub is : s ≡ fed (started list) (before ++ take last space)
+
+-- The state that a whole input leads to.
+pub record Came (s : State) : Type 0 where
+  pub list : List ℕ
+  pub room : length list ≡ 640
+  pub input : List ℕ
+  pub few : length input < 2 ^ 57
+  pub is : s ≡ fed (started list) input
+
+-- A text that is printed for an input.
+pub record IsPrinted (text : List ℕ) : Type 0 where
+  pub input : List ℕ
+  pub is : text ≡ printed input
 
 -- The state after a whole word.
 abbrev pub afterWord : Progress → State

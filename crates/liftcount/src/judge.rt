@@ -1,4 +1,5 @@
 // What the open list comes to at both versions. Leans on own (the reading), parse (its answer) and words; specs/Judging has the definition.
+use own::beside::same_words;
 use own::read_list;
 use parse::Answer;
 use words::fields;
@@ -9,7 +10,6 @@ ghost use lib.ListN.{length, take};
 ghost use Rattle.molang.specs.Words.{operatorField, wordsRefusal};
 ghost use Rattle.parse.specs.Answers.{toldOf};
 ghost use Rattle.own.specs.Own.{readingOf, Readable};
-ghost use Rattle.liftcount.specs.Counting.{eqWords};
 ghost use Rattle.liftcount.specs.Running.{openFault};
 ghost use Rattle.liftcount.specs.Judging.{Holds, afterTree, afterMessages, verdictTold, judged, Scratch};
 
@@ -25,22 +25,7 @@ pub enum Verdict {
     Both,
 }
 
-// Whether the first words of two buffers are equal. A told tree stands in its buffer, here and below.
-fn same_words(tree: &[u32], again: &[u32], words: usize) -> bool
-    requires { ⌜ (words ≤ length (now tree)) × (words ≤ length (now again)) ⌝ }
-    ensures { λ r. ⌜ r ≡ eqWords (take words (now (tree .entry))) (take words (now (again .entry))) ⌝ }
-{
-    let mut i = 0usize;
-    while i < words {
-        if tree[i] != again[i] {
-            return false;
-        }
-        i += 1;
-    }
-    true
-}
-
-// A tree of n nodes at the first version, and the answer at the second.
+// A tree of n nodes at the first version, and the answer at the second. A told tree stands in its buffer, here and below.
 fn after_tree(n: usize, second: Answer, tree: &[u32], again: &[u32]) -> Verdict
     requires { ⌜ (7 * n ≤ length (now tree)) × (Holds (toldOf second) (now again)) ⌝ }
     ensures { λ r. ⌜ r ≡ afterTree n (toldOf second) (now (tree .entry)) (now (again .entry)) ⌝ }

@@ -1,7 +1,7 @@
 -- A list with hosts reads as it does with 76 in their stead, their numbers kept in the tree (specs/Hosts): first reading and what its
 -- answer tells, then the words, then the parse entry.
 use Prim.Native.Nat.{ℕ, suc, _+_, _-_, _*_, _/_, _%_, _^_, _≤_, _<_}
-use mathlib.Core.{Path.{_≡_, refl, ap, _∙_, sym}, Bool.{Bool, true, false, _&&_, _||_, true≢false, or-true, and-false}}
+use mathlib.Core.{Path.{_≡_, refl, ap, subst, _∙_, sym}, Bool.{Bool, true, false, _&&_, _||_, true≢false, or-true, and-false}}
 use mathlib.Core.{List.{List, [], _∷_, _++_, map, map-append}, Option.{Option, none, some, Option·getD}}
 use native.Mathlib.Omega.{arith}
 use lib.{Dec.{eqb, leb, ltb}, IntN.{ℤ}, ListN.{length, take, length-map}}
@@ -20,15 +20,22 @@ use Rattle.molang.specs.Words.{lowFault, wordFault, variantAfter, nextIn
 use Rattle.molang.specs.{Legal.{Legal, LegalTrees, noTrees, legalTree}, Nesting.{openAfter, firstAbove, tooDeep}}
 use Rattle.molang.specs.Parse.{Call, lengthRows, valueRows, refusal, reading, recordWords, aTree, someMessages, told, answered}
 use Rattle.molang.specs.Parse.{inFront, treeIn, treeAfter, messagesIn, messagesAfter, workIn, workAfter}
-use Rattle.molang.specs.Hosts.{isHostWord, withThisWord, hostless, treeTold, In, first, later, KeptFrom, ReadsAsThis}
+use Rattle.molang.specs.Hosts.{isHostWord, withThisWord, hostless, treeTold, isThisOrHost, hostBefore, hostTokens, hostNodes}
+use Rattle.molang.specs.{Hosts.{ReadsAsThis, WritesHosts}, Write.{spanning}, WriteEntry.{WriteCall, writeRefusal, writtenTokens}}
+use Rattle.molang.specs.Rules.{ruleOf, withRuleNumber, unruled, withRule, ruled, ruling, rulesIn, copied, rulesOf, ruleRefusal}
+use Rattle.molang.specs.Rules.{rulesFor}
+use Rattle.molang.specs.{Left.{Left, left}, Order.{rules, Pass, order, runs, apply}, Message.{Result, ok, fail}, Parse.{inHalves}}
 use Rattle.molang.proofs.Booleans
-use Rattle.molang.proofs.{Trees.{both, decided}, FirstFailure.{behind}}
+use Rattle.molang.proofs.{Trees.{both, decided}, FirstFailure.{behind, in-parts, first-none, withNumber-none}}
 use Rattle.molang.proofs.Words.{word-back, kind-word, low-word, bits-number, bits-room, host-within, operator-small, word-faultless}
-use Rattle.molang.proofs.{Words.{next-word}, Every.{Every, nowhere, at, Renewable, read-every}, Legal.{read-legal}}
-use Rattle.molang.proofs.{Accepted.{call-accepted}, HandedTree.{front-words}, Bounds.{treeWords-length}}
+use Rattle.molang.proofs.{Words.{next-word}, HostOrder.{read-hosts, written-hosts}, Legal.{read-legal}}
+use Rattle.molang.proofs.{Accepted.{call-accepted}, HandedTree.{front-words, tree-wrote, write-of-told}, Bounds.{treeWords-length}}
 use Rattle.molang.proofs.Relabelling.{isNamed, allNamed, Seen, itself, asThis, oneOf-seen, closing-seen, Unnoticed, relabelled}
 use Rattle.molang.proofs.Relabelling.{messageOf, messagesOf, answerOf, tokensFor, read-natural, rel-count, rel-size}
+use Rattle.molang.proofs.Left.{either-accepted, comesTo, rulesLeft, left-comes}
+use Rattle.molang.proofs.Relabelling.{pick, resultOf, isQuiet, allQuiet, order-quiet, apply-natural}
 use Rattle.molang.proofs.MessageNumbers.{NamesLow, AllLow, AnswerLow, read-low}
+use Rattle.molang.proofs.{TreeWords.{tree-fault-none}, StackOrder.{trees-of-tree}}
 
 -- ---- Tokens
 
@@ -81,56 +88,11 @@ pub reads-as-this : (tokens : List Token) (u : ℕ → Bool) (version : ℤ) (so
     → read (tokensFor withThis tokens) u version sourceLength ≡ answerOf withThis (read tokens u version sourceLength)
 reads-as-this = read-natural withThis unnoticed
 
--- ---- The numbers are kept
-
--- A token with 76 or a host's number is one of the list.
-abbrev Known : List Token → Token → Type 0
-Known ks k = (eqb (k .op) Operator.this || isHost (k .op)) ≡ true → In k ks
-
--- The tokens that the passes make have other numbers.
-other-number : (ks : List Token) (k : Token) → (eqb (k .op) Operator.this || isHost (k .op)) ≡ false → Known ks k
-other-number ks k e h = absurd (true≢false (sym h ∙ e))
-
 -- 76 stands for both.
 this-for : (n : ℕ) → (eqb n Operator.this || isHost n) ≡ true → asOperator n ≡ Operator.this
 this-for n h =
     Booleans.either (isHost n) (λ t. host-as n t)
     (λ f. other-as n f ∙ eqb-true n Operator.this (Booleans.or-only-first (eqb n Operator.this) (isHost n) f h))
-
--- An opener has neither.
-opener-known : (ks : List Token) (k o : Token) → closer o ≡ k .op → isCloser (k .op) ≡ true → Known ks (closedBy k o)
-unfolding closedBy closer isCloser closingOf isOneOf any
-opener-known ks k o same closes h =
-    let e : closingOf (o .op) ≡ none = sym (closing-seen (this-seen (o .op))) ∙ ap closingOf (this-for (o .op) h) in
-    let zero : k .op ≡ 0 = sym same ∙ ap (λ (c : Option ℕ). Option·getD c 0) e in
-    absurd (true≢false (sym closes ∙ ap isCloser zero))
-
-known-new : (ks : List Token) → Renewable (Known ks)
-unfolding renamed bare isHost between
-known-new ks =
-    record {
-      plus = λ k m h. other-number ks (renamed Operator.add k) refl;
-      array = λ k m h. other-number ks (renamed Operator.array k) refl;
-      statement = λ k h. other-number ks (bare Operator.semicolon k) refl;
-      minus = λ k h. other-number ks (bare Operator.negate k) refl;
-      section = λ k o same closes h g. opener-known ks k o same closes;
-    }
-
--- The tokens of a list are known in it, also behind others.
-known-leaves : (ks all : List Token) → ((k : Token) → In k ks → In k all) → Every (Known all) (leaves ks)
-unfolding leaves
-known-leaves [] all h = nowhere
-known-leaves (k ∷ ks) all h = at (λ e. h k first) nowhere (known-leaves ks all (λ l i. h l (later i)))
-
-kept-from : (ks : List Token) {f : Forest} → Every (Known ks) f → KeptFrom ks f
-kept-from ks nowhere = tt
-kept-from ks (at h below after) = (h, kept-from ks below, kept-from ks after)
-
--- EACH NODE WITH 76 OR A HOST'S NUMBER IS A TOKEN OF THE LIST.
-pub numbers-kept : (tokens : List Token) (u : ℕ → Bool) (version : ℤ) (sourceLength : ℕ) (k : Token) (cs : Forest)
-    → read tokens u version sourceLength ≡ tree k cs → KeptFrom tokens (node k cs nil)
-numbers-kept ts u v l k cs e =
-    kept-from ts (read-every (Known ts) (known-new ts) ts u v l k cs (known-leaves ts ts (λ k i. i)) e)
 
 -- ---- The used set
 
@@ -496,13 +458,29 @@ unfolding firstOf
 then-same none x y h = rw (h refl) refl
 then-same (some r) x y h = refl
 
-refusal-same : (c : Call) → refusal (hostless c) ≡ refusal c
-unfolding refusal lengthRows valueRows hostless
-refusal-same c =
-    rw (length-map (c .list) withThisWord, words-same 0 operatorField 0 (c .list))
-    (behind _ _ _ (behind _ _ _ (behind _ _ _ (behind _ _ _ (behind _ _ _ (behind _ _ _ (behind _ _ _ (behind _ _ _
+lengths-same : (c : Call) → lengthRows (hostless c) ≡ lengthRows c
+unfolding lengthRows hostless
+lengths-same c = rw (length-map (c .list) withThisWord) refl
+
+values-same : (c : Call) → firstOf (valueRows (hostless c)) ≡ firstOf (valueRows c)
+unfolding valueRows hostless
+values-same c =
+    rw (words-same 0 operatorField 0 (c .list))
+    (behind _ _ _ (behind _ _ _ (behind _ _ _
     (then-same (wordsRefusal 0 operatorField 0 (c .list)) _ _
-    (λ e. rw (tokens-exchanged 0 0 (c .list) e, deep-same (c .limit) (tokensOf (c .list))) refl))))))))))
+    (λ e. rw (tokens-exchanged 0 0 (c .list) e, deep-same (c .limit) (tokensOf (c .list))) refl)))))
+
+-- The tables' values stand behind the same lengths.
+refusal-same : (rules : Option (List ℕ)) (c : Call) → left rules (hostless c) .turned ≡ left rules c .turned
+unfolding left refusal ruleRefusal
+refusal-same none c =
+    rw (lengths-same c) (in-parts (lengthRows c) _ ∙ behind _ _ _ (values-same c) ∙ sym (in-parts (lengthRows c) _))
+refusal-same (some rules) c =
+    rw (lengths-same c, same-length) (in-parts (lengthRows c) _
+    ∙ behind _ _ _ (behind _ _ _ (values-same c)) ∙ sym (in-parts (lengthRows c) _))
+  where
+    same-length : length (hostless c .list) ≡ length (c .list)
+    same-length = unfold hostless in length-map (c .list) withThisWord
 
 reading-this : (c : Call) → refusal c ≡ none → reading (hostless c) ≡ answerOf withThis (reading c)
 unfolding reading hostless
@@ -517,9 +495,9 @@ reading-legal : (c : Call) (k : Token) (cs : Forest) → refusal c ≡ none → 
 unfolding reading
 reading-legal c k cs e f = let a = call-accepted c e in read-legal _ _ _ _ k cs (a .legal) (a .few) f
 
-reading-kept : (c : Call) (k : Token) (cs : Forest) → reading c ≡ tree k cs → KeptFrom (tokensOf (c .list)) (node k cs nil)
+reading-kept : (c : Call) (k : Token) (cs : Forest) → reading c ≡ tree k cs → hostNodes (node k cs nil) [] ≡ hostTokens (tokensOf (c .list))
 unfolding reading
-reading-kept c k cs e = numbers-kept (tokensOf (c .list)) _ (c .version) (c .sourceLength) k cs e
+reading-kept c k cs e = read-hosts (tokensOf (c .list)) _ (c .version) (c .sourceLength) k cs e
 
 -- What is told and left of a call that is not turned back, by its reading.
 told-this : (a : Answer) → told none (answerOf withThis a) ≡ told none a
@@ -540,30 +518,156 @@ tree-this (tree k cs) buffer h =
     rw (front-words (treeWords (node k cs nil)) buffer (7 * size (node k cs nil)) (treeWords-length (node k cs nil)))
     (ap (λ (ws : List ℕ). inFront ws buffer) (treeWords-this (h k cs refl)))
 
--- EVERY CALL READS AS WITH 76 IN THE HOSTS' STEAD.
-pub hostless-same : (c : Call) → ReadsAsThis c
-unfolding answered told messagesAfter messagesIn workAfter workIn treeAfter treeIn treeTold inFront hostless
-hostless-same c = by (refusal c) refl
+-- ---- The rules
+
+rule-this : (n : ℕ) (k : Token) → withRule n (withThis k) ≡ withThis (withRule n k)
+unfolding withRule withRuleNumber withThis renamed
+rule-this n k = pick withThis (eqb (k .value) 0) (eqb (k .value) 0) refl refl refl
+
+ruled-this : (n : ℕ) (f : Forest) → ruled n (relabelled withThis f) ≡ relabelled withThis (ruled n f)
+unfolding ruled relabelled
+ruled-this n nil = refl
+ruled-this n (node k nil rest) = ap (node (withThis k) nil) (ruled-this n rest)
+ruled-this n (node k (node c cs more) rest) = rw (rule-this n k, ruled-this n (node c cs more), ruled-this n rest) refl
+
+module _ (u : ℕ → Bool) where
+  unfoldable afterRuling : Pass → List Pass → Result → Forest
+  afterRuling p ps x = elim x [ ok g ↦ ruling u ps (ruled (ruleOf p) g) | fail m ↦ nil ]
+
+  afterRuling-this : (p : Pass) (ps : List Pass) (x : Result)
+      → ((f : Forest) → ruling u ps (relabelled withThis f) ≡ relabelled withThis (ruling u ps f))
+      → afterRuling p ps (resultOf withThis x) ≡ relabelled withThis (afterRuling p ps x)
+  unfolding afterRuling resultOf relabelled
+  afterRuling-this p ps (ok g) next = ap (ruling u ps) (ruled-this (ruleOf p) g) ∙ next (ruled (ruleOf p) g)
+  afterRuling-this p ps (fail m) next = refl
+
+  ruling-this : (ps : List Pass) → allQuiet ps ≡ true → (f : Forest)
+      → ruling u ps (relabelled withThis f) ≡ relabelled withThis (ruling u ps f)
+  unfolding ruling allQuiet afterRuling
+  ruling-this [] h f = refl
+  ruling-this (p ∷ ps) h f =
+      let e = both (isQuiet p) (allQuiet ps) h in
+      pick (relabelled withThis) (runs u p) (runs u p) refl
+      (ap (afterRuling p ps) (apply-natural withThis unnoticed 0 p f (e .0))
+      ∙ afterRuling-this p ps (apply 0 p f) (λ g. ruling-this ps (e .1) g))
+      (ruling-this ps (e .1) f)
+
+rules-this : (f : Forest) → rulesIn (relabelled withThis f) ≡ rulesIn f
+unfolding rulesIn relabelled withThis renamed
+rules-this nil = refl
+rules-this (node k nil rest) = ap (λ (ns : List ℕ). 0 ∷ ns) (rules-this rest)
+rules-this (node k (node c cs more) rest) = rw (rules-this (node c cs more), rules-this rest) refl
+
+copied-this : (ks : List Token) → leaves (copied (tokensFor withThis ks)) ≡ relabelled withThis (leaves (copied ks))
+unfolding copied unruled withRuleNumber tokensFor leaves relabelled withThis renamed
+copied-this [] = refl
+copied-this (k ∷ ks) = ap (node (withThis (unruled k)) nil) (copied-this ks)
+
+-- THE RULES ARE THOSE WITH 76.
+rulesOf-this : (ks : List Token) (u : ℕ → Bool) (version : ℤ) → rulesOf (tokensFor withThis ks) u version ≡ rulesOf ks u version
+unfolding rulesOf
+rulesOf-this ks u v =
+    let quiet = order-quiet (rules v .comparisonsFirst) (rules v .andFirst) (rules v .pairsRight) in
+    ap (λ (f : Forest). rulesIn (ruling u (order (rules v)) f)) (copied-this ks)
+    ∙ (ap rulesIn (ruling-this u (order (rules v)) quiet (leaves (copied ks)))
+    ∙ rules-this (ruling u (order (rules v)) (leaves (copied ks))))
+
+rulesFor-this : (a : Answer) (ns buffer : List ℕ) → rulesFor none (answerOf withThis a) ns buffer ≡ rulesFor none a ns buffer
+unfolding rulesFor answerOf
+rulesFor-this (tree k cs) ns buffer = refl
+rulesFor-this (messages ms) ns buffer = refl
+
+-- ---- Both entries
+
+rulesLeft-this : (rules : Option (List ℕ)) (c : Call) → refusal c ≡ none → rulesLeft rules none (hostless c) ≡ rulesLeft rules none c
+unfolding rulesLeft hostless
+rulesLeft-this none c e = refl
+rulesLeft-this (some buffer) c e =
+    rw (tokens-exchanged 0 0 (c .list) (call-accepted c e .words))
+    (rw (rulesOf-this (tokensOf (c .list)) (inHalves (c .usedLow) (c .usedHigh)) (c .version), reading-this c e)
+    (rulesFor-this (reading c) _ buffer))
+
+comes-this : (rules : Option (List ℕ)) (o : Option Refusal) (c : Call) → (o ≡ none → refusal c ≡ none)
+    → ReadsAsThis c (comesTo o c (rulesLeft rules o c)) (comesTo o (hostless c) (rulesLeft rules o (hostless c)))
+unfolding comesTo rulesLeft told messagesIn workIn treeIn treeTold inFront hostless rulesFor
+comes-this rules (some r) c e =
+    record {
+      sameRefusal = refl;
+      sameAnswer = refl;
+      sameMessages = refl;
+      sameWork = refl;
+      sameRules = turned-rules rules;
+      treeWithThis = refl;
+      numbersKept = reading-kept c;
+    }
   where
-    by : (o : Option Refusal) → refusal c ≡ o → ReadsAsThis c
-    by (some r) e =
-        let back : refusal (hostless c) ≡ some r = refusal-same c ∙ e in
-        record {
-          sameRefusal = refusal-same c;
-          sameAnswer = rw (back, e) refl;
-          sameMessages = rw (back, e) refl;
-          sameWork = rw (back, e) refl;
-          treeWithThis = rw (back, e) refl;
-          numbersKept = reading-kept c;
-        }
-    by none e =
-        let read : refusal (hostless c) ≡ none = refusal-same c ∙ e in
-        let reads = reading-this c e in
-        record {
-          sameRefusal = refusal-same c;
-          sameAnswer = rw (read, e, reads) (told-this (reading c));
-          sameMessages = rw (read, e, reads) (messages-this (reading c) (c .messages) (reading-low c));
-          sameWork = rw (read, e) refl;
-          treeWithThis = rw (read, e, reads) (tree-this (reading c) (c .tree) (λ k cs f. reading-legal c k cs e f));
-          numbersKept = reading-kept c;
-        }
+    turned-rules : (rules : Option (List ℕ)) → rulesLeft rules (some r) (hostless c) ≡ rulesLeft rules (some r) c
+    turned-rules none = refl
+    turned-rules (some buffer) = refl
+comes-this rules none c e =
+    let reads = reading-this c (e refl) in
+    record {
+      sameRefusal = refl;
+      sameAnswer = ap (told none) reads ∙ told-this (reading c);
+      sameMessages = ap (λ (a : Answer). messagesIn none a (c .messages)) reads ∙ messages-this (reading c) (c .messages) (reading-low c);
+      sameWork = refl;
+      sameRules = rulesLeft-this rules c (e refl);
+      treeWithThis = ap (λ (a : Answer). treeIn none a (c .tree)) reads
+          ∙ tree-this (reading c) (c .tree) (λ k cs f. reading-legal c k cs (e refl) f);
+      numbersKept = reading-kept c;
+    }
+
+-- EVERY CALL OF EITHER ENTRY READS AS WITH 76 IN THE HOSTS' STEAD.
+pub hostless-same : (rules : Option (List ℕ)) (c : Call) → ReadsAsThis c (left rules c) (left rules (hostless c))
+hostless-same rules c =
+    let turned = left rules c .turned in
+    let there : left rules (hostless c) ≡ comesTo turned (hostless c) (rulesLeft rules turned (hostless c)) =
+    left-comes rules (hostless c)
+    ∙ ap (λ (o : Option Refusal). comesTo o (hostless c) (rulesLeft rules o (hostless c))) (refusal-same rules c) in
+    subst (λ (l : Left). ReadsAsThis c l (left rules (hostless c))) (sym (left-comes rules c))
+    (subst (λ (l : Left). ReadsAsThis c (comesTo (left rules c .turned) c (rulesLeft rules (left rules c .turned) c)) l) (sym there)
+    (comes-this rules (left rules c .turned) c (λ e. either-accepted rules c e)))
+
+-- ---- The write entry
+
+-- EVERY WRITTEN LIST HAS 76 AND THE HOSTS IN THE TREE'S ORDER.
+pub hosts-written : (w : WriteCall) → WritesHosts w
+unfolding writeRefusal writtenTokens
+hosts-written w count h =
+    let accepted = write-of-told w count h in
+    let whole = withNumber-none 12 _ (first-none _ _ accepted .0) in
+    let t = tree-fault-none (w .tree) .0 whole in
+    let trees = trees-of-tree t in
+    rw trees (written-hosts (t .root) (t .children) (tree-wrote (t .root) (t .children) w whole trees accepted .plain))
+
+-- `300 + this * 301`, all in one place: its tree has the three in the list's order, and the tree with the two hosts exchanged has not.
+one-place : ℕ → Token
+unfolding spanning
+one-place o = spanning o 0 1
+
+threeIn : ℕ → ℕ → Forest
+unfolding one-place
+threeIn first last =
+    node (one-place Operator.add)
+    (node (one-place first) nil
+    (node (one-place Operator.mul) (node (one-place Operator.this) nil (node (one-place last) nil nil)) nil)) nil
+
+three-kept : hostNodes (threeIn 300 301) [] ≡ hostTokens
+    (one-place 300 ∷ one-place Operator.add ∷ one-place Operator.this ∷ one-place Operator.mul ∷ one-place 301 ∷ [])
+unfolding threeIn hostNodes hostTokens hostBefore isThisOrHost isHost between
+three-kept = refl
+
+three-are : hostNodes (threeIn 300 301) [] ≡ one-place 300 ∷ one-place Operator.this ∷ one-place 301 ∷ []
+unfolding threeIn hostNodes hostBefore isThisOrHost isHost between
+three-are = refl
+
+exchanged-not : hostNodes (threeIn 301 300) [] ≡ hostNodes (threeIn 300 301) [] → ⊥
+unfolding threeIn hostNodes hostBefore isThisOrHost isHost between spanning one-place
+exchanged-not h =
+    let tokens : _≡_ {A = List Token} (one-place 301 ∷ one-place Operator.this ∷ one-place 300 ∷ [])
+    (one-place 300 ∷ one-place Operator.this ∷ one-place 301 ∷ []) = h in
+    let same : _≡_ {A = ℕ} 301 300 = ap headOp tokens in omega arith
+  where
+    headOp : List Token → ℕ
+    headOp [] = 0
+    headOp (k ∷ ks) = k .op

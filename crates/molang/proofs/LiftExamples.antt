@@ -1,10 +1,12 @@
 -- Computed examples of card 12 (document 02): two write calls whose lists come back from lifts at 4, 5 and 6, word for word, though the
--- tree has a leaf and an operator that close elsewhere and a host's leaf; and that the limit's premise is needed.
+-- tree has a leaf and an operator that close elsewhere and a host's leaf; and that the limit's premise is needed. And of the lift of a list
+-- from one engine to another, each of its lots.
 use Prim.Native.Nat.{ℕ, _+_, _*_, _/_}
 use mathlib.Core.{Path.{_≡_, refl}, List.{List, [], _∷_}, Option.{Option, none, some}}
 use lib.{IntN.{pos}, ListN.{length, replicate}}
 use Rattle.molang.specs.Operator
-use Rattle.molang.specs.{Forest.{Forest, nil, node}, Words.{tokensOf, treeWords}, Reread.{Lift, wordsOf, lifted, byWayOf}}
+use Rattle.molang.specs.{Forest.{Forest, nil, node}, Words.{tokensOf, treeWords, listWords}, Reread.{Lift, wordsOf, lifted, byWayOf}}
+use Rattle.molang.specs.{Lines.{tokensFrom}, Matching.{operatorsIn}, Lift.{Lifted, same, lifted as Lifted·lifted, behind, liftOf}}
 use Rattle.molang.proofs.Computed.{computed}
 
 -- The node of an operator at a position, that closes somewhere, before others.
@@ -80,3 +82,33 @@ counts = (refl, refl)
 sum-too-deep : relifted 1 (written sum) ≡ fourTimes none
 unfolding computed written relifted
 sum-too-deep = refl
+
+-- ---- The lift of a list
+
+-- What becomes of a list of operators, one a position, that is lifted to an engine with this limit.
+between : ℕ → ℕ → ℕ → List ℕ → Lifted
+between from to limit os =
+    liftOf (record { version = pos from; limit = 4096 }) (record { version = pos to; limit = limit }) (listWords (tokensFrom 0 os))
+
+-- The operators of what comes out.
+operatorsOut : Lifted → List ℕ
+operatorsOut same = []
+operatorsOut (Lifted·lifted out) = operatorsIn (tokensOf out)
+operatorsOut (behind number place) = []
+
+-- `a && b || c` is the same at 4 and 5, and for 6 is written `a && (b || c)`; in a statement, `v = (a && (b || c)) ;`.
+abbrev logic : List ℕ
+logic = 61 ∷ 57 ∷ 61 ∷ 56 ∷ 61 ∷ []
+
+lists-come-out : (between 4 5 1 logic ≡ same) × (operatorsOut (between 5 6 1 logic) ≡ 61 ∷ 57 ∷ 4 ∷ 61 ∷ 56 ∷ 61 ∷ 5 ∷ [])
+    × (operatorsOut (between 5 6 2 (44 ∷ 71 ∷ 61 ∷ 57 ∷ 61 ∷ 56 ∷ 61 ∷ 73 ∷ []))
+    ≡ 44 ∷ 71 ∷ 4 ∷ 61 ∷ 57 ∷ 4 ∷ 61 ∷ 56 ∷ 61 ∷ 5 ∷ 5 ∷ 73 ∷ [])
+unfolding computed between operatorsOut
+lists-come-out = (refl, refl, refl)
+
+-- Nothing is no tree; `a && b || 45` is not plain at 5; `((a))` is too deep for a limit of 1, and so is `a && b || c && d || e` as written.
+lists-stay-behind : (between 4 6 1 [] ≡ behind 0 1) × (between 5 6 1 (61 ∷ 57 ∷ 61 ∷ 56 ∷ 45 ∷ []) ≡ behind 13 4)
+    × (between 4 6 1 (4 ∷ 4 ∷ 61 ∷ 5 ∷ 5 ∷ []) ≡ behind 18 1)
+    × (between 5 6 1 (61 ∷ 57 ∷ 61 ∷ 56 ∷ 61 ∷ 57 ∷ 61 ∷ 56 ∷ 61 ∷ []) ≡ behind 18 3)
+unfolding computed between
+lists-stay-behind = (refl, refl, refl, refl)

@@ -15,7 +15,7 @@ use Rattle.molang.proofs.Reread.{Readable, written-readable}
 use Rattle.molang.proofs.Payloads.{two-lists, uses-same, legal-words-reach, one-name, one-node}
 
 -- The words of the items that are counted, alone.
-take-apart : {width items : ℕ} {xs ys : List ℕ} → PayloadApart width items xs ys
+pub take-apart : {width items : ℕ} {xs ys : List ℕ} → PayloadApart width items xs ys
     → PayloadApart width items (take (width * items) xs) (take (width * items) ys)
 take-apart {width} {items} (equalWords e) = equalWords (ap (take (width * items)) e)
 take-apart {width} {items} (onePayload at h p) =

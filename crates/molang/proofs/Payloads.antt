@@ -11,7 +11,7 @@ use Rattle.molang.specs.Parse.{inFront, treeIn, treeAfter, messagesIn, m
 use Rattle.molang.specs.Rules.{withRuleNumber, unruled, copied, rulesOf, RuleCall, ruleRefusal, ruleAnswered, ruledTreeAfter}
 use Rattle.molang.specs.Rules.{ruledMessagesAfter, ruledWorkAfter, rulesFor, rulesAfter}
 use Rattle.molang.specs.Payloads.{withoutPayload, PayloadApart, equalWords, ArgumentApart, equalRecords, withList, nodesTold}
-use Rattle.molang.specs.Payloads.{recordsTold, Reach, ruledWithList, RuleReach, withTree, tokensTold, WriteReach}
+use Rattle.molang.specs.Payloads.{recordsTold, Reach, ruledWithList, RuleReach, withTree, tokensTold, WriteReach, AtOne}
 use Rattle.molang.specs.Write.{writtenTree}
 use Rattle.molang.specs.WriteEntry.{treeFault, treesOf, WriteCall, forestRefusal, writeRefusal, writtenTokens, tokens, writeTold}
 use Rattle.molang.specs.WriteEntry.{writeAnswered, listIn, listAfter}
@@ -51,11 +51,11 @@ abbrev LegalAnswer : Answer → Type 0
 LegalAnswer a = (k : Token) (cs : Forest) → a ≡ tree k cs → LegalTrees (node k cs nil)
 
 -- What is told and left of two answers, the calls being turned back alike.
-record ToldAlike (o : Option Refusal) (a b : Answer) : Type 0 where
-  answer : told o b ≡ told o a
-  tree : (buffer : List ℕ) → PayloadApart 7 (nodesTold (told o a)) (treeIn o a buffer) (treeIn o b buffer)
-  messages : (buffer : List ℕ) → ArgumentApart (recordsTold (told o a)) (messagesIn o a buffer) (messagesIn o b buffer)
-  rules : (numbers buffer : List ℕ) → rulesFor o b numbers buffer ≡ rulesFor o a numbers buffer
+pub record ToldAlike (o : Option Refusal) (a b : Answer) : Type 0 where
+  pub answer : told o b ≡ told o a
+  pub tree : (buffer : List ℕ) → PayloadApart 7 (nodesTold (told o a)) (treeIn o a buffer) (treeIn o b buffer)
+  pub messages : (buffer : List ℕ) → ArgumentApart (recordsTold (told o a)) (messagesIn o a buffer) (messagesIn o b buffer)
+  pub rules : (numbers buffer : List ℕ) → rulesFor o b numbers buffer ≡ rulesFor o a numbers buffer
 
 turned-back : (r : Refusal) (a b : Answer) → ToldAlike (some r) a b
 unfolding told treeIn messagesIn rulesFor
@@ -139,7 +139,7 @@ unfolding copied tokensFor blank unruled withRuleNumber
 copied-blank [] = refl
 copied-blank (k ∷ ks) = rw (copied-blank ks) refl
 
-copied-same : {xs ys : List ℕ} → TwoLists xs ys → copied (tokensOf ys) ≡ copied (tokensOf xs)
+pub copied-same : {xs ys : List ℕ} → TwoLists xs ys → copied (tokensOf ys) ≡ copied (tokensOf xs)
 copied-same {xs} {ys} t = sym (copied-blank (tokensOf ys)) ∙ (ap copied (sym (t .same)) ∙ copied-blank (tokensOf xs))
 
 -- ---- From a list to tree and messages
@@ -151,15 +151,22 @@ refusal-same : (c : Call) (list : List ℕ) → wordsRefusal 0 operatorField 0 (
 unfolding refusal lengthRows valueRows withList
 refusal-same c list h g t = rw (t .long, h, g, deep-same (c .limit) t) refl
 
+pub two-readings : (c d : Call) → refusal c ≡ none → refusal d ≡ none → AtOne c d → TwoLists (c .list) (d .list)
+    → ToldAlike none (reading c) (reading d)
+unfolding reading
+two-readings c d h g one t =
+    let x = call-accepted c h in
+    let y = call-accepted d g in
+    rw (one .version, one .usedLow, one .usedHigh, one .sourceLength)
+    (answered-alike (reach (tokensOf (c .list)) (tokensOf (d .list)) (t .same) _ (c .version) (c .sourceLength)) (t .one)
+    (λ k cs e. read-legal _ _ _ _ k cs (x .legal) (x .few) e) (λ k cs e. read-legal _ _ _ _ k cs (y .legal) (y .few) e)
+    (read-once _ _ _ _))
+
 readings-alike : (c : Call) (list : List ℕ) → refusal c ≡ none → refusal (withList c list) ≡ none → TwoLists (c .list) list
     → ToldAlike none (reading c) (reading (withList c list))
-unfolding reading withList
+unfolding withList
 readings-alike c list h g t =
-    let x = call-accepted c h in
-    let y = call-accepted (withList c list) g in
-    answered-alike (reach (tokensOf (c .list)) (tokensOf list) (t .same) _ (c .version) (c .sourceLength)) (t .one)
-    (λ k cs e. read-legal _ _ _ _ k cs (x .legal) (x .few) e) (λ k cs e. read-legal _ _ _ _ k cs (y .legal) (y .few) e)
-    (read-once _ _ _ _)
+    two-readings c (withList c list) h g (record { version = refl; usedLow = refl; usedHigh = refl; sourceLength = refl }) t
 
 -- EVERY CALL WHOSE WORDS ARE LEGAL, accepted or not, is told and left alike.
 pub legal-words-reach : {items : ℕ} (c : Call) (list : List ℕ) → wordsRefusal 0 operatorField 0 (c .list) ≡ none

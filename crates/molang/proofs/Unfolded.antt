@@ -1,6 +1,7 @@
--- THE SECOND WALK. The Rust goes through a left side that holds unfolded operators again; the definition fails at its first such leaf. Here
--- they are shown to be the same: after a level its operator leaves stand only as last child of its operator nodes, and a walk over such a
--- list ends in message 12 at the first of them, or changes nothing.
+-- THE SECOND WALK. The Rust goes through a left side again that it has marked as one that holds unfolded operators; the definition fails at
+-- its first such leaf. Here a level that goes through every left side again is shown to give the same as the definition's: after a level
+-- its operator leaves stand only as last child of its operator nodes, and a walk over such a list ends in message 12 at the first of them,
+-- or changes nothing.
 use Prim.Native.Nat.{ℕ}
 use mathlib.Core.{Path.{_≡_, refl, ap, _∙_}, Bool.{Bool, true, false, not, true≢false, false≢true, or-true}, List.{List, [], _∷_}}
 use mathlib.Core.Option.{Option, none, some}
@@ -150,12 +151,12 @@ module _ (ops : List ℕ) where
   unfolding binaryLevel nothing
   binary-kept = record { Fits = KeptFits; full = keptFull; begins = λ f. empty; steps = kept-steps; ends = kept-ends }
 
-  -- The trees so far, the last one's children gone through again, as the Rust does where they hold an unfolded operator.
+  -- The trees so far, the last one's children gone through again, whether or not they hold an unfolded operator.
   unfoldable pub again : Forest → Result
   again nil = ok nil
   again (node l ls d) = elim (through (binaryLevel ops) ls) [ fail m ↦ fail m | ok kids ↦ ok (node l kids d) ]
 
-  -- The binary level as the Rust has it.
+  -- The binary level that goes through every left side again; it has no mark.
   unfoldable pub againStep : Gathered → Token → Forest → Step Gathered
   againStep (gathered d) k cs = binaryStep ops (gathered d) k cs
   againStep (waiting d q) k nil = elim (again d) [ fail m ↦ stop m | ok e ↦ on (gathered (joined e q k nil)) ]
@@ -219,7 +220,7 @@ module _ (ops : List ℕ) where
       ∙ onward-again k cs rest (kept-steps s k cs rest tt h) (λ t h. walk-again t rest h)
       (λ u h. walk-again u cs h)
 
-  -- The second walk changes nothing: the definition's level is the Rust's.
+  -- The second walk changes nothing: the definition's level gives what this one gives.
   pub through-again : (f : Forest) → through againLevel f ≡ through (binaryLevel ops) f
   unfolding through againLevel binaryLevel nothing
   through-again f = walk-again (gathered nil) f empty

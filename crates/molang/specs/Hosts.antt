@@ -1,17 +1,18 @@
 -- The hosts' operators (document 02, card 7): "A list with them reads as it would at the same used set with 76 in their stead, their number
--- kept wherever the answer names it." Neither reading nor writing uses this file: it states that promise of the parse entry.
+-- kept wherever the answer names it." Neither reading nor writing uses this file: it states that promise of both reading entries.
 use Prim.Native.Nat.{ℕ, _+_, _-_, _*_}
 use mathlib.Core.Path.{_≡_}
 use mathlib.Core.Bool.{Bool, true, false, _&&_, _||_}
-use mathlib.Core.List.{List, _∷_, map}
+use mathlib.Core.List.{List, [], _∷_, map}
 use lib.Dec.{eqb}
 use lib.ListN.{take}
 use Rattle.molang.specs.Operator.{this, isHost}
 use Rattle.molang.specs.Forest.{Token, Forest, nil, node}
 use Rattle.molang.specs.Read.{tree}
 use Rattle.molang.specs.Words.{kindOf, lowOf, operatorBits, numberIn, tokensOf}
-use Rattle.molang.specs.Parse.{Call, refusal, reading, Told, aTree, someMessages, refused, answered, inFront, treeAfter}
-use Rattle.molang.specs.Parse.{messagesAfter, workAfter}
+use Rattle.molang.specs.Parse.{Call, reading, Told, aTree, someMessages, refused, inFront}
+use Rattle.molang.specs.Left.{Left}
+use Rattle.molang.specs.WriteEntry.{treesOf, WriteCall, writtenTokens, tokens, writeAnswered}
 
 -- A word of kind 1 whose number is a host's.
 unfoldable pub isHostWord : ℕ → Bool
@@ -42,23 +43,39 @@ treeTold (aTree nodes) = 7 * nodes
 treeTold (someMessages records) = 0
 treeTold (refused number place) = 0
 
--- The token is one of the list.
-pub data In (k : Token) : List Token → Type 0 where
-  first : {ks : List Token} → In k (k ∷ ks)
-  later : {l : Token} {ks : List Token} → In k ks → In k (l ∷ ks)
+-- 76 or a host's number.
+unfoldable pub isThisOrHost : ℕ → Bool
+isThisOrHost n = eqb n this || isHost n
 
--- Each node of the trees that has 76 or a host's number is one of the tokens, with its payload and span.
-abbrev pub KeptFrom : List Token → Forest → Type 0
-KeptFrom ks nil = Unit {0}
-KeptFrom ks (node k cs rest) = ((eqb (k .op) this || isHost (k .op)) ≡ true → In k ks) × KeptFrom ks cs × KeptFrom ks rest
+-- The tokens r, behind the token k if that has 76 or a host's number.
+unfoldable pub hostBefore : Token → List Token → List Token
+hostBefore k r = elim (isThisOrHost (k .op)) [ true ↦ k ∷ r | false ↦ r ]
 
--- A CALL READS AS WITH 76 IN THE HOSTS' STEAD: it is turned back alike, answers alike, and leaves the same messages and work. The call with
--- 76 leaves the same tree with 76 put in, and the rest of the tree buffer as it was. And the numbers are kept: no node with 76 or a host's
--- number has another one than its token in the list.
-pub record ReadsAsThis (c : Call) : Type 0 where
-  pub sameRefusal : refusal (hostless c) ≡ refusal c
-  pub sameAnswer : answered (hostless c) ≡ answered c
-  pub sameMessages : messagesAfter (hostless c) ≡ messagesAfter c
-  pub sameWork : workAfter (hostless c) ≡ workAfter c
-  pub treeWithThis : treeAfter (hostless c) ≡ inFront (map withThisWord (take (treeTold (answered c)) (treeAfter c))) (c .tree)
-  pub numbersKept : (k : Token) (cs : Forest) → reading c ≡ tree k cs → KeptFrom (tokensOf (c .list)) (node k cs nil)
+-- The tokens of a list with these numbers, in list order.
+unfoldable pub hostTokens : List Token → List Token
+hostTokens [] = []
+hostTokens (k ∷ ks) = hostBefore k (hostTokens ks)
+
+-- The nodes of trees with these numbers, in tree order, before the tokens r.
+unfoldable pub hostNodes : Forest → List Token → List Token
+hostNodes nil r = r
+hostNodes (node k cs rest) r = hostBefore k (hostNodes cs (hostNodes rest r))
+
+-- A CALL READS AS WITH 76 IN THE HOSTS' STEAD, by what the call c comes to, and what it comes to with 76: it is turned back alike, answers
+-- alike, and leaves the same messages, work and rule bytes. The call with 76 leaves the same tree with 76 put in, and the rest of the tree
+-- buffer as it was. And the numbers are kept: the nodes with 76 and with hosts' numbers, in tree order, are the tokens with these numbers,
+-- in list order.
+pub record ReadsAsThis (c : Call) (here there : Left) : Type 0 where
+  pub sameRefusal : there .turned ≡ here .turned
+  pub sameAnswer : there .told ≡ here .told
+  pub sameMessages : there .messages ≡ here .messages
+  pub sameWork : there .work ≡ here .work
+  pub sameRules : there .rules ≡ here .rules
+  pub treeWithThis : there .tree ≡ inFront (map withThisWord (take (treeTold (here .told)) (here .tree))) (c .tree)
+  pub numbersKept : (k : Token) (cs : Forest) → reading c ≡ tree k cs → hostNodes (node k cs nil) [] ≡ hostTokens (tokensOf (c .list))
+
+-- THE WRITTEN LIST KEEPS THEM: if a call of the writer answers a token count, the written tokens with 76 and with hosts' numbers, in list
+-- order, are the nodes with these numbers of the tree that it was given, in tree order.
+abbrev pub WritesHosts : WriteCall → Type 0
+WritesHosts w =
+    (count : ℕ) → writeAnswered w ≡ tokens count → hostTokens (writtenTokens (treesOf (w .tree))) ≡ hostNodes (treesOf (w .tree)) []

@@ -12,6 +12,7 @@ pub mod Conditional
 pub mod Order
 pub mod Read
 pub mod Free
+pub mod Grammar
 pub mod Weight
 pub mod Work
 pub mod Matching
@@ -20,13 +21,16 @@ pub mod Words
 pub mod Legal
 pub mod Nesting
 pub mod Parse
-pub mod Hosts
 pub mod Rules
+pub mod Left
+pub mod Hosts
+pub mod Limits
 pub mod OperatorRules
 pub mod Plain
 pub mod Write
 pub mod WriteEntry
 pub mod Reread
+pub mod Lift
 pub mod StackOrder
 pub mod Payloads
 pub mod Lines

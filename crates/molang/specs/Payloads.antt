@@ -6,10 +6,12 @@ use mathlib.Core.Path.{_≡_}
 use mathlib.Core.Bool.{true, false, _||_}
 use mathlib.Core.List.{List, _∷_, _++_, map}
 use lib.Dec.{eqb}
-use lib.ListN.{length}
+use mathlib.Core.Option.{Option, some}
+use lib.ListN.{length, take}
 use Rattle.molang.specs.Words.{kindOf}
 use Rattle.molang.specs.Parse.{Call, Told, aTree, someMessages, refused, answered, treeAfter, messagesAfter, workAfter}
 use Rattle.molang.specs.Rules.{RuleCall, ruleAnswered, ruledTreeAfter, ruledMessagesAfter, ruledWorkAfter, rulesAfter}
+use Rattle.molang.specs.Left.{Left, left}
 use Rattle.molang.specs.WriteEntry.{WriteCall, WriteTold, tokens, unwritten, writeAnswered, listAfter}
 use Rattle.molang.specs.Reread.{Rereading, handed, writerCall, RereadTold, twoTrees, firstMessages, secondMessages, turnedBack}
 use Rattle.molang.specs.Reread.{RereadLeft}
@@ -168,3 +170,29 @@ pub record RereadReach (nodes count : ℕ) (a b : RereadLeft) : Type 0 where
   pub again : PayloadApart 7 (nodesAgainTold (a .told)) (a .again) (b .again)
   pub messages : ArgumentApart (recordsRereadTold (a .told)) (a .messages) (b .messages)
   pub work : b .work ≡ a .work
+
+-- ---- Whatever the limit, and whatever was lent
+
+-- Two calls at one version, used set and source length. Their limits and their buffers, and what these hold, may differ.
+pub record AtOne (c d : Call) : Type 0 where
+  pub version : d .version ≡ c .version
+  pub usedLow : d .usedLow ≡ c .usedLow
+  pub usedHigh : d .usedHigh ≡ c .usedHigh
+  pub sourceLength : d .sourceLength ≡ c .sourceLength
+
+-- ONE NAME'S REACH BY THE ANSWER ALONE: two calls, of either reading entry, are told the same. The words of their trees, seven a node,
+-- differ in one node's payload at most, the words of their messages, eight a record, in one argument; and if both have a rule buffer, the
+-- rule bytes of the nodes are equal.
+pub record FreeReach (one other : Option (List ℕ)) (c d : Call) : Type 0 where
+  pub answer : left other d .told ≡ left one c .told
+  pub tree : let n = nodesTold (left one c .told) in
+      PayloadApart 7 n (take (7 * n) (left one c .tree)) (take (7 * n) (left other d .tree))
+  pub messages : let n = recordsTold (left one c .told) in
+      ArgumentApart n (take (8 * n) (left one c .messages)) (take (8 * n) (left other d .messages))
+  pub rules : (first second : List ℕ) → one ≡ some first → other ≡ some second
+      → let n = nodesTold (left one c .told) in take n (left other d .rules) ≡ take n (left one c .rules)
+
+-- The same from two trees to the lists that are written of them, five words a token.
+pub record FreeWriteReach (c d : WriteCall) : Type 0 where
+  pub answer : writeAnswered d ≡ writeAnswered c
+  pub list : let n = tokensTold (writeAnswered c) in PayloadApart 5 n (take (5 * n) (listAfter c)) (take (5 * n) (listAfter d))

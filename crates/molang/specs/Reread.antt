@@ -178,6 +178,7 @@ pub record CanLift (list : List ℕ) (l : Lift) : Type 0 where
   pub treeRoom : 21 * (length list / 5) ≤ length (l .tree)
   pub messageRoom : 16 ≤ length (l .messages)
   pub workRoom : 64 * (length list / 5) + 64 ≤ length (l .work)
+  -- And not a word more.
   pub listRoom : length list ≤ length (l .written)
   pub legalLength : l .sourceLength ≤ 536870911
   pub legalLimit : isLimit (l .limit) ≡ true
@@ -212,6 +213,7 @@ pub record CanReadBack (c : Rereading) (k : Token) (cs : Forest) : Type 0 where
   pub listRoom : 5 * length (writtenTree k cs) ≤ length (c .written)
   pub treeRoom : 21 * length (writtenTree k cs) ≤ length (c .again)
   pub workRoom : 64 * length (writtenTree k cs) + 64 ≤ length (c .first .work)
+  -- It need not be the first's.
   pub legalLength : c .sourceLength ≤ 536870911
   pub legalLimit : isLimit (c .limit) ≡ true
   pub withinLimit : tooDeep (c .limit) (writtenTree k cs) ≡ none

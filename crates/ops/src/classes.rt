@@ -5,9 +5,11 @@ ghost use mathlib.Core.Path.{_≡_};
 ghost use mathlib.Core.Bool.{_||_};
 ghost use Prim.Native.Nat.{ℕ};
 ghost use Rattle.ops.specs.Classes.{bitAt, shares, classTable, entryOf};
+ghost use Rattle.ops.specs.Constants.{constantNumbers};
 
 // A set of token classes: each constant from CALL to ONLY_CONDITIONAL_ELSE is one class, each after it several. NONE and ALL are the
-// Rust's, which notes ALL where no pass has looked yet. Here each leaf notes its own classes from the start, so no function uses ALL.
+// Rust's, which notes ALL where no pass has looked yet. Here each leaf notes its own classes from the start, so no pass uses ALL;
+// `class_constants` holds it, as every other constant, to what it stands for.
 pub struct TokenClasses(pub u32);
 
 impl TokenClasses {
@@ -212,6 +214,50 @@ pub const CLASSES: [u32; 111] = [
     TokenClasses::MATH.0, // HOST_MATH
     TokenClasses::MATH.0, // HOST_MATH_VOLATILE
 ];
+
+// Every constant of the type, in the order in which it has them.
+const CONSTANTS: [u32; 33] = [
+    TokenClasses::NONE.0,
+    TokenClasses::ALL.0,
+    TokenClasses::CALL.0,
+    TokenClasses::SEMICOLON.0,
+    TokenClasses::ARRAY.0,
+    TokenClasses::POINTER.0,
+    TokenClasses::UNARY.0,
+    TokenClasses::DIV.0,
+    TokenClasses::MUL.0,
+    TokenClasses::ADD.0,
+    TokenClasses::LESS_THAN.0,
+    TokenClasses::LESS_EQUAL.0,
+    TokenClasses::GREATER_EQUAL.0,
+    TokenClasses::GREATER_THAN.0,
+    TokenClasses::LOGICAL_EQUAL.0,
+    TokenClasses::LOGICAL_NOT_EQUAL.0,
+    TokenClasses::LOGICAL_OR.0,
+    TokenClasses::LOGICAL_AND.0,
+    TokenClasses::CONDITIONAL.0,
+    TokenClasses::NULL_COALESCING.0,
+    TokenClasses::COMMA.0,
+    TokenClasses::ASSIGNMENT.0,
+    TokenClasses::RETURN.0,
+    TokenClasses::MATH.0,
+    TokenClasses::ONLY_ADD.0,
+    TokenClasses::ONLY_CONDITIONAL.0,
+    TokenClasses::ONLY_CONDITIONAL_ELSE.0,
+    TokenClasses::MINUS.0,
+    TokenClasses::LEAF_ADD.0,
+    TokenClasses::LEAF_CONDITIONAL.0,
+    TokenClasses::LEAF_CONDITIONAL_ELSE.0,
+    TokenClasses::COMPARISONS.0,
+    TokenClasses::EQUALITIES.0,
+];
+
+// The constants as numbers: those that specs/Constants lists, of each of which proofs/Constants says what it stands for.
+pub fn class_constants() -> [u32; 33]
+    ensures { λ r. ⌜ r ≡ constantNumbers ⌝ }
+{
+    CONSTANTS
+}
 
 // The table as a value. A caller that looks it up often copies it to a local first, since a constant array is made anew at each use.
 pub fn class_table() -> [u32; 111]

@@ -5,7 +5,7 @@ use native.Mathlib.Omega.{arith}
 use lib.{Dec.{leb}, ListN.{length, replicate}}
 use borrow.Author.Tests.{leb-true, le-leb, lt-leb, lt-ltb, le-ltb}
 use Rattle.molang.specs.{FirstFailure.{must, firstOf}, Parse.{inFront}, Words.{Refusal, row, listWords}}
-use Rattle.molang.proofs.FirstFailure.{passed}
+use Rattle.molang.proofs.FirstFailure.{passed, All, all-first, all-last, all-must}
 use Rattle.shortlists.specs.ShortLists.{upTo, isAlphabet, countRefusal, listRefusal, listAt}
 use Rattle.shortlists.specs.Answers.{found, refused, told, countTold, listTold, tokensGiven, wordsAt}
 use Rattle.shortlists.proofs.ShortLists.{longer}
@@ -70,3 +70,18 @@ module _ (letters : List ℕ) (n : ℕ) where
         let same = longer letters n 6 position short below in
         let passes = lt-ltb position (length (upTo letters n)) below in
         (rw (none-found, passes, same) refl, rw (none-found, passes, same) refl)
+
+-- ---- Places
+
+abbrev AtZero : Refusal → Type 0
+AtZero r = r .place ≡ 0
+
+-- EVERY REFUSAL of both entries, 19 and 20, is at place 0.
+pub count-place : (letters : List ℕ) (n : ℕ) → All AtZero (countRefusal letters n)
+unfolding countRefusal
+count-place letters n = all-first AtZero _ _ (all-must AtZero _ (row 19 0) refl) (all-last AtZero _ (all-must AtZero _ (row 20 0) refl))
+
+pub list-place : (letters : List ℕ) (n position : ℕ) → All AtZero (listRefusal letters n position)
+unfolding listRefusal
+list-place letters n position =
+    all-first AtZero _ _ (count-place letters n) (all-last AtZero _ (all-must AtZero _ (row 20 0) refl))

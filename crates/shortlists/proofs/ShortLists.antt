@@ -1,6 +1,6 @@
 -- What is shown of every short list: how many there are (`counts`), that they are every list of the letters (`every`) and no other
--- (`only`), that each occurs one time (`once`), that short ones come first (`shorter-first`), and that a list stands at the same position
--- whatever the length (`longer`). Assumes nothing.
+-- (`only`), that each occurs one time (`once`), that short ones come first (`shorter-first`), then by the letters from the left
+-- (`smaller-first`), and that a list stands at the same position whatever the length (`longer`). Assumes nothing.
 use Prim.Native.Nat.{ℕ, zero, suc, _+_, _*_, _^_, _/_, _%_, _-_, _≤_, _<_}
 use mathlib.Core.{Path.{_≡_, refl, ap, sym, _∙_}, Bool.{Bool, true, false}, List.{List, [], _∷_, _++_}}
 use native.Mathlib.Omega.{arith}
@@ -9,7 +9,8 @@ use native.Mathlib.Nat.{div-add-mod', mod-lt, div-lt-iff-lt-mul}
 use lib.{Dec.{leb, ltb}, ListN.{length, getD, length-append, List·getD-append}, Seq.{getD-append-add}}
 use borrow.Author.Tests.{leb-true, leb-false, ltb-true, ltb-false}
 use Rattle.molang.{specs.Forest.{Token}, specs.Lines.{tokensFrom}, proofs.Booleans.{either}, proofs.Trees.{both}}
-use Rattle.shortlists.specs.ShortLists.{led, before, ofLength, upTo, powers, among, areLetters, Stands, isAlphabet, listAt}
+use Rattle.shortlists.specs.ShortLists.{led, before, ofLength, upTo, powers, among, areLetters, Stands, isAlphabet, listAt, Smaller}
+use Rattle.shortlists.specs.ShortLists.{differs, agrees}
 use Rattle.shortlists.proofs.AlphabetLaws.{Distinct, alphabet, apart, among-at, Occurs, occurs}
 
 -- ---- How many
@@ -197,6 +198,59 @@ module _ (letters : List ℕ) where
         counts letters (s .long - 1),
         ap (powers (length letters)) one,
       )))
+
+  -- ---- In which order, within one length
+
+  smaller-of : (n i j : ℕ) → i < j → j < length (ofLength letters n)
+      → Smaller letters (getD (ofLength letters n) i []) (getD (ofLength letters n) j [])
+  unfolding ofLength
+  smaller-of zero i j lt h = absurd (omega arith)
+  smaller-of (suc n) i j lt h =
+      let ls = ofLength letters n in
+      let s = split letters ls i (omega arith) in
+      let t = split letters ls j h in
+      rw (s .is, t .is)
+      (either (ltb (s .first) (t .first)) (λ e. differs (ltb-true (s .first) (t .first) e) (t .first-below))
+      (λ e. same-first n s t (first-same n i j lt s t (ltb-false (s .first) (t .first) e)) lt
+      (λ a b. smaller-of n (s .rest) (t .rest) a b)))
+    where
+      -- The first letter of the later one is not before that of the earlier one.
+      first-same : (n i j : ℕ) → i < j → (s : Split letters (ofLength letters n) i) (t : Split letters (ofLength letters n) j)
+          → t .first ≤ s .first
+          → s .first ≡ t .first
+      first-same n i j lt s t le =
+          let m = length (ofLength letters n) in
+          either (ltb (t .first) (s .first))
+          (λ e. absurd (omega (
+            arith,
+            s .whole,
+            t .whole,
+            t .rest-below,
+            suc-mul (t .first) m,
+            mul-le-mul-right m (ltb-true (t .first) (s .first) e),
+          )))
+          (λ e. omega (arith, ltb-false (t .first) (s .first) e))
+
+      same-first : (n : ℕ) {i j : ℕ} (s : Split letters (ofLength letters n) i) (t : Split letters (ofLength letters n) j)
+          → s .first ≡ t .first → i < j
+          → (s .rest < t .rest → t .rest < length (ofLength letters n)
+          → Smaller letters (getD (ofLength letters n) (s .rest) []) (getD (ofLength letters n) (t .rest) []))
+          → Smaller letters (getD letters (s .first) 0 ∷ getD (ofLength letters n) (s .rest) [])
+          (getD letters (t .first) 0 ∷ getD (ofLength letters n) (t .rest) [])
+      same-first n s t e lt inner =
+          let m = length (ofLength letters n) in
+          rw e (agrees (inner (omega (arith, s .whole, t .whole, ap (λ (q : ℕ). q * m) e)) (t .rest-below)))
+
+  -- AND BY THE LETTERS FROM THE LEFT: of two lists of one length, the one at the lower position is smaller at the first difference.
+  pub smaller-first : (n i j : ℕ) → i < j → j < length (upTo letters n)
+      → length (getD (upTo letters n) i []) ≡ length (getD (upTo letters n) j [])
+      → Smaller letters (getD (upTo letters n) i []) (getD (upTo letters n) j [])
+  smaller-first n i j lt h same =
+      let s = standing n i (omega arith) in
+      let t = standing n j h in
+      let long : s .long ≡ t .long = sym (length-up n i s) ∙ (same ∙ length-up n j t) in
+      let further : s .left < t .left = omega (arith, s .whole, t .whole, ap (powers (length letters)) long) in
+      rw (stands n i s, stands n j t, long) (smaller-of (t .long) (s .left) (t .left) further (t .below))
 
 -- ---- Each one time
 

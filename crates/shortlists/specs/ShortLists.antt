@@ -80,3 +80,8 @@ pub record Stands (ls : List (List ℕ)) (l : List ℕ) : Type 0 where
   pub position : ℕ
   pub below : position < length ls
   pub is : getD ls position [] ≡ l
+
+-- A list stands before another of its length: at the first letter in which they differ it has the one with the lower index.
+pub data Smaller (letters : List ℕ) : List ℕ → List ℕ → Type 0 where
+  differs : {i j : ℕ} {l m : List ℕ} → i < j → j < length letters → Smaller letters (getD letters i 0 ∷ l) (getD letters j 0 ∷ m)
+  agrees : {a : ℕ} {l m : List ℕ} → Smaller letters l m → Smaller letters (a ∷ l) (a ∷ m)

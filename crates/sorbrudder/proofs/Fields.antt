@@ -20,7 +20,7 @@ module _ (kind number low : ℕ) (n : number < 2 ^ 8) (l : low < 2 ^ 32) where
   low-in = omega arith
 
 -- So no two answers that fit have the same number.
-told-found : (o : Told) → FitsTold o → toldBack (toldNumber o) ≡ o
+pub told-found : (o : Told) → FitsTold o → toldBack (toldNumber o) ≡ o
 told-found (aTree n) h = rw (kind-in 0 0 n (omega arith) h, low-in 0 0 n (omega arith) h) refl
 told-found (someMessages n) h = rw (kind-in 1 0 n (omega arith) h, low-in 1 0 n (omega arith) h) refl
 told-found (refused n p) h = rw (kind-in 2 n p (h .0) (h .1), number-in 2 n p (h .0) (h .1), low-in 2 n p (h .0) (h .1)) refl

@@ -2,3 +2,4 @@
 pub mod Bounds
 pub mod HoldingLaws
 pub mod Fields
+pub mod Exporting

@@ -2,10 +2,11 @@
 use Prim.Native.Nat.{ℕ, zero, suc, _+_, _-_, _*_, _/_, _%_, _^_, _≤_, _<_}
 use mathlib.Core.{Path.{_≡_, refl, ap, sym, _∙_}, Bool.{Bool, true, false}, List.{List, [], _∷_, _++_}}
 use native.Mathlib.{Nat.{pow-le-pow-right}, Omega.{arith, pow-step}}
-use lib.{Dec.{leb, ltb}, ListN.{length, take, length-append}, Seq.{take-all}}
+use lib.{Dec.{leb, ltb}, ListN.{length, take, drop, length-append}, Seq.{take-all, take-at}}
 use borrow.Author.Tests.{lt-ltb, le-ltb, leb-true, leb-false}
 use Rattle.io.specs.Digits.{digits, glyph, Fewest}
-use Rattle.words.{specs.Records.{laidAt}, proofs.RecordLaws.{none-laid, laid-laid}}
+use Rattle.molang.specs.Parse.{inFront}
+use Rattle.words.{specs.Records.{laidAt}, proofs.RecordLaws.{none-laid, laid-front, laid-laid}}
 use Rattle.text.specs.Text.{decimalIn, decimal, numbered, Wrote}
 
 -- Nothing is laid, and a text behind a text.
@@ -23,6 +24,13 @@ wrote-then {a} {b} {c} {at} {m} {r} {s} {t} h p q =
 pub wrote-all : {out₀ out : List ℕ} {at : ℕ} {bytes : List ℕ} {i : ℕ} → length bytes ≤ i → out ≡ laidAt at (take i bytes) out₀
     → Wrote out₀ at bytes (at + length bytes) out
 wrote-all {out₀} {at = at} {bytes} {i} h e = record { ends = refl; whole = e ∙ ap (λ (l : List ℕ). laidAt at l out₀) (take-all i bytes h) }
+
+-- A text that was laid in front is what stands in front.
+pub wrote-front : {out₀ out : List ℕ} {text : List ℕ} {n : ℕ} → Wrote out₀ 0 text n out → take n out ≡ text
+unfolding inFront
+wrote-front {out₀} {out} {text} {n} w =
+    let size : length text ≡ n = omega (arith, w .ends) in
+    ap (take n) (w .whole ∙ laid-front text out₀) ∙ take-at text (drop (length text) out₀) n size
 
 -- LENGTHS
 decimal-in-length : (k n : ℕ) → length (decimalIn k n) ≤ k

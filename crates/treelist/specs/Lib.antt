@@ -1,2 +1,3 @@
 -- What the program prints, as definitions.
 pub mod Listing
+pub mod Input

@@ -1,19 +1,24 @@
 // The program `treelist` of document 01: reads the words of a version and of up to 128 tokens, and prints the tree, the messages or
-// the refusal. `main` only reads and writes; which text answers which bytes is the promise of the function `listing`. Leans on io, own
-// (the reading), listing (the words of bytes, the text) and derived.
+// the refusal. `main` only reads and writes: what came of the input is what `answer_input` asks for, which text answers which bytes is the
+// promise of the function `listing`, and what is handed to `write` is what `hand` asks for. Leans on io, streams (reading), own (the
+// reading of a list), listing and text (the words of bytes, the text) and derived.
 mod asked;
 
 use crate::asked::answer;
-use libc::STDIN_FILENO;
+use libc::STDERR_FILENO;
 use libc::STDOUT_FILENO;
 use listing::bytes::words_of;
 use listing::rows::put_answer;
+use streams::End;
+use streams::fill;
+use text::put_bytes;
 ghost use mathlib.Core.Path.{_≡_};
-ghost use Prim.Native.Nat.{_≤_};
+ghost use Prim.Native.Nat.{_+_, _^_, _≤_, _<_};
 ghost use lib.ListN.{length};
 ghost use Rattle.io.specs.Counts.{Counts};
 ghost use Rattle.text.specs.Text.{Wrote};
 ghost use Rattle.treelist.specs.Listing.{printed};
+ghost use Rattle.treelist.specs.Input.{RestRead, Came, IsPrinted};
 
 // The bytes of a version and 128 tokens.
 const FRONT: usize = 2564;
@@ -21,7 +26,7 @@ const FRONT: usize = 2564;
 // How often the rest of an input is read on. A proved loop has to end, and nothing says that an input does: no run uses this up.
 const TURNS: usize = 1_099_511_627_776;
 
-// The text that answers an input of so many bytes, whose front is given; how many bytes it has. `main` lends both buffers.
+// The text that answers an input of so many bytes, whose front is given; how many bytes it has. `answer_input` lends both buffers.
 fn listing(front: &[u8], bytes: usize, out: &mut [u8]) -> usize
     requires { ⌜ (length (now front) ≡ 2564) × (length (now out) ≡ 32768) ⌝ }
     ensures { λ r. ⌜ Counts r (now (out .exit)) ⌝ }
@@ -35,38 +40,101 @@ fn listing(front: &[u8], bytes: usize, out: &mut [u8]) -> usize
     put_answer(out, 0, answered, &tree, &messages)
 }
 
-// Reads on; how many bytes came.
-fn read_on() -> usize
-    ensures { λ r. ⌜ r ≤ 65536 ⌝ }
-{
-    let mut space = io::large_buffer();
-    io::read_full(STDIN_FILENO, &mut space)
+// What came of the input behind its front: how many bytes, how many of them came last, and why they were no more.
+struct Rest {
+    bytes: usize,
+    last: usize,
+    end: End,
 }
 
-// Reads to the input's end; how many bytes came.
-fn count_rest() -> usize
-    ensures { λ r. ⌜ r ≤ 72057594037927936 ⌝ }
+// One chunk more. `count_rest` has room for its length.
+fn read_on(rest: Rest, space: &mut [u8]) -> Rest
+    requires { ⌜ (length (now space) ≡ 65536) × (rest .bytes + 65536 < 2 ^ 64) ⌝ }
+    ensures { λ r. ⌜ (r .last ≤ length (now (space .exit))) × (r .bytes ≡ rest .bytes + r .last) ⌝ }
 {
-    let mut bytes = 0usize;
+    let came = fill(space);
+    let last = came.bytes;
+    let end = came.end;
+    Rest {
+        bytes: rest.bytes + last,
+        last,
+        end,
+    }
+}
+
+// Reads on as long as chunks fill the space, which `go_on` lends.
+fn count_rest(space: &mut [u8]) -> Rest
+    requires { ⌜ length (now space) ≡ 65536 ⌝ }
+    ensures { λ r. ⌜ RestRead (now (space .exit)) (r .last) (r .bytes) ⌝ }
+{
+    let mut rest = Rest {
+        bytes: 0,
+        last: 0,
+        end: End::Full,
+    };
     let mut turns = TURNS;
     while 0 < turns {
         turns -= 1;
-        let more = read_on();
-        if more == 0 {
-            return bytes;
-        }
-        bytes += more;
+        let next = read_on(rest, space);
+        let end = next.end;
+        let End::Full = end else {
+            return next;
+        };
+        rest = next;
     }
-    bytes
+    rest
+}
+
+// A line on standard error; nothing more is printed.
+fn fail(line: &[u8]) {
+    io::write_all(STDERR_FILENO, line);
+}
+
+fn unread() {
+    fail(b"treelist: a read failed, and nothing is printed\n");
+}
+
+// Hands a text to `write`: it is what is printed for an input.
+fn hand(text: &[u8])
+    requires { ⌜ IsPrinted (now text) ⌝ }
+{
+    if !io::write_all(STDOUT_FILENO, text) {
+        fail(b"treelist: a write failed, and the text is not whole\n");
+    }
+}
+
+// Answers an input of so many bytes, of which the front came.
+fn answer_input(front: &[u8], bytes: usize)
+    requires { ⌜ Came (now front) bytes ⌝ }
+{
+    let mut whole = [0u8; 2564];
+    put_bytes(&mut whole, 0, front);
+    let mut out = [0u8; 32_768];
+    let n = listing(&whole, bytes, &mut out);
+    hand(&out[..n]);
+}
+
+// The input has a whole front: how much comes behind it.
+fn go_on(front: &[u8])
+    requires { ⌜ length (now front) ≡ 2564 ⌝ }
+{
+    let mut space = io::large_buffer();
+    let rest = count_rest(&mut space);
+    let end = rest.end;
+    match end {
+        End::Ended => answer_input(front, FRONT + rest.bytes),
+        End::Full | End::Failed => unread(),
+    }
 }
 
 fn main() {
     let mut front = [0u8; 2564];
-    let mut bytes = io::read_full(STDIN_FILENO, &mut front);
-    if bytes == FRONT {
-        bytes += count_rest();
+    let came = fill(&mut front);
+    let n = came.bytes;
+    let end = came.end;
+    match end {
+        End::Full => go_on(&front),
+        End::Ended => answer_input(&front[..n], n),
+        End::Failed => unread(),
     }
-    let mut out = [0u8; 32_768];
-    let n = listing(&front, bytes, &mut out);
-    io::write_all(STDOUT_FILENO, &out[..n]);
 }

@@ -2,11 +2,12 @@
 use Prim.Native.Nat.{ℕ, _+_}
 use mathlib.Core.List.{List}
 use lib.ListN.{getD}
-use denote.Ref.{RefT}
+use denote.Ref.{RefT, now}
 use Rattle.molang.specs.Words.{lowOf}
 use Rattle.words.specs.Fields.{operatorOf}
 use Rattle.write.specs.declared.reader.TreeReader.{TreeReader}
 use Rattle.write.specs.declared.reader.NodeView.{NodeView}
+use Rattle.write.specs.declared.reader.Passed.{Passed}
 use Rattle.words.specs.Tokens.{nodeLength}
 use Rattle.shape.specs.Shaped.{countIndex}
 
@@ -26,3 +27,14 @@ readerAt words at = record { words = words; at = at }
 abbrev pub viewAt : List ℕ → ℕ → NodeView
 viewAt words at =
     record { op = operatorAt words at; children = childrenAt words at; next = operatorAt words (at + nodeLength); after = at + nodeLength }
+
+-- The node that a reader over these words passes at a position, with the reader behind it.
+abbrev pub passedAt : RefT (List ℕ) → ℕ → Passed
+passedAt words at =
+    record {
+      words = words;
+      at = at + nodeLength;
+      op = operatorAt (now words) at;
+      children = childrenAt (now words) at;
+      next = operatorAt (now words) (at + nodeLength);
+    }

@@ -25,12 +25,14 @@
 mod checksum;
 mod error;
 mod read;
+mod salvage;
 mod words;
 mod write;
 
 pub use error::{ArchiveError, Damage};
 pub use read::{List, Lists};
-pub use write::{ListsWriter, Totals};
+pub use salvage::{Piece, Salvage};
+pub use write::{Encoded, ListsWriter, Totals};
 
 /// How a file holds its lists.
 ///

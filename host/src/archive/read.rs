@@ -93,6 +93,9 @@ impl<R: Read> Lists<R> {
                 lists.begin(word)?;
             }
             Next::Word(word) if version_of(word).is_some() => lists.opened = Some((word, 0)),
+            Next::Part if MAGIC[0].to_le_bytes().starts_with(lists.words.part()) => {
+                return Err(lists.damaged(Damage::Cut, 0));
+            }
             Next::Word(_) | Next::Part => return Err(lists.damaged(Damage::NoArchive, 0)),
             Next::End => return Err(lists.damaged(Damage::Empty, 0)),
         }
@@ -147,6 +150,12 @@ impl<R: Read> Lists<R> {
     /// assert_eq!(versions, [6, 4]);
     /// ```
     pub fn next_list(&mut self) -> Result<Option<List<'_>>, ArchiveError> {
+        let read = self.step()?;
+        Ok(read.map(|read| self.last(read)))
+    }
+
+    /// Reads the next list, and gives its version and its byte.
+    pub(super) fn step(&mut self) -> Result<Option<(i16, u64)>, ArchiveError> {
         if self.ended {
             return Ok(None);
         }
@@ -154,18 +163,28 @@ impl<R: Read> Lists<R> {
             Format::Words => self.next_of_words(),
             Format::Container => self.next_of_container(),
         };
-        let Some((version, byte)) = read.inspect_err(|_| self.ended = true)? else {
-            self.ended = true;
-            return Ok(None);
-        };
-        let number = self.totals.lists;
-        self.totals.add(&self.list);
-        Ok(Some(List {
-            number,
+        let read = read.inspect_err(|_| self.ended = true)?;
+        match read {
+            Some(_) => self.totals.add(&self.list),
+            None => self.ended = true,
+        }
+        Ok(read)
+    }
+
+    /// The list that was read last, of this version and at this byte.
+    pub(super) fn last(&self, (version, byte): (i16, u64)) -> List<'_> {
+        List {
+            number: self.totals.lists - 1,
             byte,
             version,
             words: &self.list,
-        }))
+        }
+    }
+
+    /// Passes by all that is left; how long the stream is.
+    pub(super) fn skip(&mut self) -> std::io::Result<u64> {
+        while let Next::Word(_) = self.words.next()? {}
+        Ok(self.words.byte() + self.words.part().len() as u64)
     }
 
     fn damaged(&self, damage: Damage, byte: u64) -> ArchiveError {
@@ -251,11 +270,10 @@ impl<R: Read> Lists<R> {
         }
         let mut sum = Checksum::of(&[opener, len]);
         self.list.clear();
-        for _ in 0..len {
-            let word = self.word()?;
-            sum.add(word);
-            self.list.push(word);
+        if !self.words.take(len as usize, &mut self.list)? {
+            return Err(self.damaged(Damage::Cut, self.words.byte()));
         }
+        sum.add_all(&self.list);
         if self.word()? != sum.value() {
             return Err(self.damaged(Damage::Checksum, byte));
         }

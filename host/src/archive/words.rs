@@ -40,6 +40,11 @@ impl<R: Read> Words<R> {
         self.before + self.at as u64
     }
 
+    /// The bytes that are left where they are fewer than a word's.
+    pub(super) fn part(&self) -> &[u8] {
+        &self.bytes[self.at..self.len]
+    }
+
     #[inline]
     pub(super) fn next(&mut self) -> io::Result<Next> {
         if self.len - self.at < 4 {
@@ -53,6 +58,25 @@ impl<R: Read> Words<R> {
             None if self.at == self.len => Ok(Next::End),
             None => Ok(Next::Part),
         }
+    }
+
+    /// Takes so many words; whether there are as many.
+    pub(super) fn take(&mut self, count: usize, to: &mut Vec<u32>) -> io::Result<bool> {
+        let mut left = count;
+        while left > 0 {
+            if self.len - self.at < 4 {
+                self.fill()?;
+            }
+            let (words, _) = self.bytes[self.at..self.len].as_chunks();
+            let words = &words[..words.len().min(left)];
+            if words.is_empty() {
+                return Ok(false);
+            }
+            to.extend(words.iter().map(|word| u32::from_le_bytes(*word)));
+            self.at += 4 * words.len();
+            left -= words.len();
+        }
+        Ok(true)
     }
 
     /// Reads on until there is a word, or no byte more.

@@ -85,6 +85,26 @@ int linkat(int from_folder, const char *from, int to_folder, const char *to, int
     return is_stopped() ? -1 : real(from_folder, from, to_folder, to, flags);
 }
 
+int renameat2(int from_folder, const char *from, int to_folder, const char *to, unsigned flags) {
+    int (*real)(int, const char *, int, const char *, unsigned) = dlsym(RTLD_NEXT, "renameat2");
+    return is_stopped() ? -1 : real(from_folder, from, to_folder, to, flags);
+}
+
+int fchown(int file, uid_t user, gid_t group) {
+    int (*real)(int, uid_t, gid_t) = dlsym(RTLD_NEXT, "fchown");
+    return is_stopped() ? -1 : real(file, user, group);
+}
+
+int fchmod(int file, mode_t mode) {
+    int (*real)(int, mode_t) = dlsym(RTLD_NEXT, "fchmod");
+    return is_stopped() ? -1 : real(file, mode);
+}
+
+int fsetxattr(int file, const char *name, const void *value, size_t size, int flags) {
+    int (*real)(int, const char *, const void *, size_t, int) = dlsym(RTLD_NEXT, "fsetxattr");
+    return is_stopped() ? -1 : real(file, name, value, size, flags);
+}
+
 int chmod(const char *path, mode_t mode) {
     int (*real)(const char *, mode_t) = dlsym(RTLD_NEXT, "chmod");
     return is_stopped() ? -1 : real(path, mode);

@@ -1,20 +1,19 @@
 //! `sorbrudder diff`: which lists another version reads otherwise, where, and by which rule. It writes nothing.
 
-use crate::args::{self, Args};
+use crate::args::Args;
 use crate::bracketed;
 use crate::check::{is_refused, note_words};
 use crate::failure::{Failure, Status};
-use crate::input::Input;
+use crate::helpers::{Helpers, Task};
+use crate::input::{Batch, Input, Listed};
 use crate::line::{About, Line, Place, Which};
 use crate::output;
 use crate::paths;
 use crate::rules;
-use crate::several::{self, Stdout, Teller};
-use sorbrudder::archive::List;
-use sorbrudder::{Op, ReadError, Reader, TreeRef};
+use crate::several::{self, How, Sink as _, Stdout, Teller};
+use crate::summary;
+use sorbrudder::{ReadError, Reader, Rule, Tokens, Tree};
 use std::path::Path;
-
-pub const OPTIONS: &[args::Option] = &[args::flag("--json"), args::value("--to")];
 
 /// What was found, by the words of the results.
 #[derive(Clone, Copy, Debug, Default)]
@@ -52,59 +51,110 @@ impl Found {
     }
 }
 
+/// Compares how lists are read at their own versions and at another.
+struct Diff {
+    to: i16,
+    is_json: bool,
+}
+
+impl Task for Diff {
+    type State = (Reader, Reader);
+    type Done = (Found, String);
+
+    fn state(&self) -> (Reader, Reader) {
+        (Reader::new(), Reader::new())
+    }
+
+    fn work(
+        &self,
+        (old, new): &mut (Reader, Reader),
+        file: &Path,
+        batch: &Batch,
+    ) -> (Found, String) {
+        let (mut found, mut text) = (Found::default(), String::new());
+        for list in batch.lists() {
+            let line = compare(old, new, list, self.to);
+            found.add(line.result);
+            let about = About::list(file, list);
+            if self.is_json {
+                text += &line.as_json(about);
+            } else if line.result != "same" {
+                text += &line.as_text(about);
+            }
+        }
+        (found, text)
+    }
+}
+
 pub fn run(args: &Args) -> Result<Status, Failure> {
     if args.rest.is_empty() {
         return Err(args.wrong("name the files or folders to compare"));
     }
-    let to = args.needed_version("--to")?;
-    let files = paths::files(&args.rest)?;
-    let is_json = args.has("--json");
-    let mut sum = Found::default();
+    let (to, is_json) = (args.needed_version("--to")?, args.has("--json"));
+    let task = &Diff { to, is_json };
+    let jobs = args.jobs()?;
+    let found = paths::find(args)?;
+    let (mut sum, mut read) = (Found::default(), 0);
+    // Where nobody reads the lines to their end, the lists are read all the same: the status speaks of all of them.
     let mut stdout = Stdout {
-        goes_on: false,
+        goes_on: true,
         is_closed: false,
     };
-    let diff = |file: &Path, teller: &mut Teller<Found>| diff_file(file, to, is_json, teller);
-    let status = several::each(&files, is_json, &mut stdout, diff, |found| sum.join(found))?;
+    let how = How {
+        task,
+        jobs,
+        is_json,
+    };
+    let status = several::each(&how, &found.files, &mut stdout, diff_file, |found| {
+        read += 1;
+        sum.join(found);
+    })?;
     output::tell(&format!(
         "{} lists at version {to}: {} read alike, {} otherwise, {} trees no longer, {} trees only then, {} no trees at all, {} refused",
         sum.lists, sum.same, sum.differ, sum.only_old, sum.only_new, sum.no_trees, sum.refused,
     ));
-    let found = if sum.same < sum.lists {
+    found.tell();
+    let is_found = sum.same < sum.lists;
+    let status = status.max(if is_found {
         Status::Found
     } else {
         Status::Well
-    };
-    Ok(status.max(found))
+    });
+    if is_json {
+        let counts = [
+            ("lists", sum.lists),
+            ("same", sum.same),
+            ("differ", sum.differ),
+            ("only_old", sum.only_old),
+            ("only_new", sum.only_new),
+            ("no_trees", sum.no_trees),
+            ("refused", sum.refused),
+        ];
+        let failed = found.files.len() as u64 - read;
+        let files = [found.files.len() as u64, failed, found.skipped];
+        stdout.text(&summary::record("diff", Some(to), files, &counts, status))?;
+    }
+    Ok(status)
 }
 
 fn diff_file(
     file: &Path,
-    to: i16,
-    is_json: bool,
     teller: &mut Teller<Found>,
+    helpers: &Helpers<'_, Diff>,
 ) -> Result<Found, Failure> {
     let mut input = Input::open(file)?;
     note_words(&input, teller);
-    let (mut old, mut new) = (Reader::new(), Reader::new());
-    let mut found = Found::default();
-    while let Some(list) = input.next_list()? {
-        let line = compare(&mut old, &mut new, &list, to);
-        found.add(line.result);
-        let about = About::list(file, &list);
-        if is_json {
-            teller.text(&line.as_json(about));
-        } else if line.result != "same" {
-            teller.text(&line.as_text(about));
-        }
-        if teller.is_closed() {
-            return Err(Failure::Closed);
-        }
-    }
-    Ok(found)
+    let mut sum = Found::default();
+    helpers.each(&mut input, |(found, text)| {
+        sum.join(found);
+        teller.text(&text);
+        teller.open()
+    })?;
+    Ok(sum)
 }
 
-fn compare(old: &mut Reader, new: &mut Reader, list: &List<'_>, to: i16) -> Line {
+/// The line about a list as its own version and another read it.
+pub fn compare(old: &mut Reader, new: &mut Reader, list: Listed<'_>, to: i16) -> Line {
     let from = list.version;
     let read = (
         old.read_words(list.words, from),
@@ -112,25 +162,37 @@ fn compare(old: &mut Reader, new: &mut Reader, list: &List<'_>, to: i16) -> Line
     );
     match read {
         (Ok(old), Ok(new)) if old == new => Line::new("same", Some(to)),
-        (Ok(old), Ok(new)) => differing((old, from), (new, to)),
-        (Ok(tree), Err(why)) => one_sided("only-old", (tree, from), (&why, to), to),
-        (Err(why), Ok(tree)) => one_sided("only-new", (tree, to), (&why, from), to),
         (Err(why), Err(_)) if is_refused(&why) || from == to => Line::of_read_error(&why, Some(to)),
         (Err(why), Err(_)) => Line {
             text: format!("no tree at {from} and at {to}: {why}"),
             ..Line::of_read_error(&why, Some(to))
         },
+        _ => otherwise(old, list, to),
+    }
+}
+
+/// A list that is read otherwise is read again, so that the library says by which rules.
+fn otherwise(reader: &mut Reader, list: Listed<'_>, to: i16) -> Line {
+    let from = list.version;
+    let tokens = Tokens::from_words(list.words).unwrap_or_default();
+    let read = [from, to].map(|version| reader.read_with_rules(&tokens, version));
+    match read {
+        [Ok(old), Ok(new)] => differing((&old, from), (&new, to)),
+        [Ok(tree), Err(why)] => one_sided("only-old", (&tree, from), (&why, to), to),
+        [Err(why), Ok(tree)] => one_sided("only-new", (&tree, to), (&why, from), to),
+        [Err(why), Err(_)] => Line::of_read_error(&why, Some(to)),
     }
 }
 
 /// Two trees: the highest node that differs, and the rule.
-fn differing((old, from): (TreeRef<'_>, i16), (new, to): (TreeRef<'_>, i16)) -> Line {
+fn differing((old, from): (&Tree, i16), (new, to): (&Tree, i16)) -> Line {
     let mut line = Line::new("differs", Some(to));
-    let lines = [old, new].map(|tree| bracketed::line(tree, None));
+    let lines = [old, new].map(|tree| bracketed::line(tree.view(), None));
     line.text = format!("{from} reads {}, {to} reads {}", lines[0], lines[1]);
     if let Some(first) = old.differences(new).next() {
         let (one, other) = (first.old, first.new);
-        let rule = rules::between(from, to, &[one.op(), other.op()]);
+        let made: Vec<Rule> = [one, other].iter().filter_map(|node| node.rule()).collect();
+        let rule = rules::between(from, to, &made);
         line.text += &format!(
             "; from node {}, `{}` at {}, on",
             one.number(),
@@ -143,26 +205,32 @@ fn differing((old, from): (TreeRef<'_>, i16), (new, to): (TreeRef<'_>, i16)) -> 
             op: one.op(),
             span: one.span(),
         });
-        line.reason = rule;
+        line.rule = rule;
     }
+    line.readings = lines.map(Some);
     line
 }
 
 /// A tree at one version only.
 fn one_sided(
     result: &'static str,
-    (tree, at): (TreeRef<'_>, i16),
+    (tree, at): (&Tree, i16),
     (why, none_at): (&ReadError, i16),
     to: i16,
 ) -> Line {
-    let ops: Vec<Op> = tree.nodes().map(|node| node.op()).collect();
-    let rule = rules::between(at, none_at, &ops);
-    let read = bracketed::line(tree, None);
+    let made: Vec<Rule> = tree.nodes().filter_map(|node| node.rule()).collect();
+    let rule = rules::between(at, none_at, &made);
+    let read = bracketed::line(tree.view(), None);
     let because = rule.map_or(String::new(), |rule| format!(": {rule}"));
+    let text = format!("{at} reads {read}, {none_at} no tree ({why}){because}");
     Line {
         result,
-        text: format!("{at} reads {read}, {none_at} no tree ({why}){because}"),
-        reason: rule,
+        text,
+        rule,
+        readings: match result {
+            "only-old" => [Some(read), None],
+            _ => [None, Some(read)],
+        },
         ..Line::of_read_error(why, Some(to))
     }
 }

@@ -1,23 +1,14 @@
 //! `sorbrudder draw`: two readings of a list as a page for a browser.
 
-use crate::args::{self, Args};
+use crate::args::Args;
 use crate::failure::{Failure, Status};
 use crate::one_list::{self, OneList};
 use crate::output;
-use crate::page;
+use crate::pages;
 use crate::paths::{is_stream, place_of};
 use crate::replace::Replacement;
-use crate::rules;
-use sorbrudder::Reader;
 use std::io::Write as _;
 use std::path::PathBuf;
-
-pub const OPTIONS: &[args::Option] = &[
-    one_list::E,
-    one_list::SOURCE,
-    args::value("--at"),
-    args::value("-o"),
-];
 
 /// What is drawn where nothing is said.
 const USUAL: [i16; 2] = [4, 6];
@@ -35,13 +26,7 @@ pub fn run(args: &Args) -> Result<Status, Failure> {
         return Err(args.wrong("the page would take the place of what it is drawn from"));
     }
     let one = OneList::of(args)?;
-    let mut reader = Reader::new();
-    let read = [old, new].map(|version| (version, reader.read_with_rules(&one.list, version)));
-    let rules = match &read {
-        [(old, Ok(first)), (new, Ok(second))] => rules::all_between((*old, first), (*new, second)),
-        _ => Vec::new(),
-    };
-    let page = page::html(&one.source, &read, &rules);
+    let page = pages::draw(&one.list, &one.source, [old, new]);
     if is_stream(&target) {
         return output::print(&page);
     }

@@ -1,20 +1,12 @@
 //! `sorbrudder explain`: why a list is no tree, each message under the tokens that it points at.
 
-use crate::args::{self, Args};
+use crate::args::Args;
 use crate::failure::{Failure, Status};
 use crate::json::Object;
-use crate::one_list::{self, OneList};
+use crate::one_list::OneList;
 use crate::output;
 use crate::read::{self, NEWEST};
 use sorbrudder::{Message, ReadError, Reader, Span, Token};
-
-pub const OPTIONS: &[args::Option] = &[
-    one_list::E,
-    one_list::SOURCE,
-    args::value("--at"),
-    args::value("--limit"),
-    args::flag("--json"),
-];
 
 pub fn run(args: &Args) -> Result<Status, Failure> {
     let one = OneList::of(args)?;
@@ -49,15 +41,23 @@ pub fn complaint(one: &OneList, version: i16, why: &ReadError, is_json: bool) ->
     if is_json {
         return as_json(one, version, why, &messages);
     }
-    let mut text = format!("version {version}   no tree\n\n{}\n", one.source);
-    if let Some(token) = deepest(one, why) {
-        text += &format!("{} {why}\n", under(&one.source, token.span));
-        return text;
+    let said: Vec<(Span, String)> = match deepest(one, why) {
+        Some(token) => vec![(token.span, why.to_string())],
+        None => messages
+            .iter()
+            .map(|message| (message.span(), message.to_string()))
+            .collect(),
+    };
+    let mut text = format!("version {version}   no tree\n\n");
+    let excerpt = one.excerpt();
+    if one.is_of_file || !excerpt.is_short() {
+        text.extend(said.iter().map(|(span, what)| excerpt.of(*span, what)));
+    } else {
+        text += &format!("{}\n", excerpt.line());
+        let under = |(span, what): &(Span, String)| format!("{} {what}\n", excerpt.under(*span));
+        text.extend(said.iter().map(under));
     }
-    for message in &messages {
-        text += &format!("{} {message}\n", under(&one.source, message.span()));
-    }
-    if messages.is_empty() {
+    if said.is_empty() {
         text += &format!("{why}\n");
     }
     text
@@ -71,25 +71,19 @@ fn deepest(one: &OneList, why: &ReadError) -> Option<Token> {
     }
 }
 
-/// Signs under what a span covers of a text, of at least one place.
-fn under(source: &str, span: Span) -> String {
-    let before = |byte: u32| {
-        let byte = (byte as usize).min(source.len());
-        let starts = source.char_indices().map(|(start, _)| start);
-        starts.filter(|start| *start < byte).count()
-    };
-    let (start, end) = (before(span.start()), before(span.end()));
-    " ".repeat(start) + &"^".repeat(end.saturating_sub(start).max(1))
-}
-
 fn as_json(one: &OneList, version: i16, why: &ReadError, messages: &[Message]) -> String {
     let message = |message: &Message| {
         let mut object = Object::new();
         object
             .number("number", message.number())
             .number("start", message.span().start())
-            .number("end", message.span().end())
-            .text("text", &message.to_string());
+            .number("end", message.span().end());
+        if let Some((line, column)) = one.excerpt().place(message.span()) {
+            object
+                .number("line", line as u64)
+                .number("column", column as u64);
+        }
+        object.text("text", &message.to_string());
         object
     };
     let result = match why {

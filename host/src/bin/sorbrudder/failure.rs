@@ -1,5 +1,6 @@
 //! How the command ends.
 
+use crate::escape;
 use sorbrudder::archive::ArchiveError;
 use std::io;
 use std::path::Path;
@@ -53,11 +54,11 @@ impl Failure {
     }
 
     pub fn io(file: &Path, why: &io::Error) -> Self {
-        Self::Io(format!("{}: {why}", file.display()))
+        Self::Io(format!("{}: {why}", escape::path(file)))
     }
 
     pub fn archive(file: &Path, why: &ArchiveError) -> Self {
-        let text = format!("{}: {why}", file.display());
+        let text = format!("{}: {why}", escape::path(file));
         match why {
             ArchiveError::Damaged { .. } => Self::Damaged(text),
             _ => Self::Io(text),

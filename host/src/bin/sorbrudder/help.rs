@@ -1,143 +1,146 @@
-//! What `--help` says.
+//! What `--help` says, made from the table of the commands.
 
+use crate::args;
+use crate::commands::{self, COMMANDS, Command, EVERYWHERE, NOTES, STATUSES, TITLE};
 use crate::failure::{Failure, Status};
+use crate::nearest::did_you_mean;
 use crate::output;
 
-pub const ALL: &str = "\
-sorbrudder: archives of Molang token lists, checked, compared, lifted to a version, shown and drawn
+/// How wide a line is.
+const WIDTH: usize = 100;
 
-  sorbrudder check PATH..                  reads only: lists, trees, messages, refusals, damage
-  sorbrudder diff PATH.. --to V            which lists version V reads otherwise, at which node, by which rule; writes nothing
-  sorbrudder lift IN -o OUT --to V         carries the lists over to version V, so that it reads each as its own version does
-  sorbrudder lift PATH.. --in-place --to V
-  sorbrudder read FILE#N                   the tree of list N of an archive; -e 'a && b || c' instead of FILE#N takes a list
-  sorbrudder versions FILE#N               the list as versions 4, 5 and 6 read it, and the trees where they differ
-  sorbrudder explain FILE#N                why a list is no tree
-  sorbrudder draw FILE#N --at 4,6 -o PAGE  two trees side by side as a page for a browser
-  sorbrudder ops                           the operators
+/// Where the texts of commands and options begin.
+const COMMAND_TEXT: usize = 38;
+const OPTION_TEXT: usize = 18;
 
-`sorbrudder COMMAND --help` says more. Lists are numbered from 0. A folder stands for all files in it, by name, but for those whose
-names begin with a dot or end in `.bak`. `-` is standard input or output. What is told of lists goes to standard output, `--json`
-makes it a line of JSON a list (and one for a file that fails); progress and the summary go to standard error. NO_COLOR is heeded. Where
-nobody reads standard output any more, a command ends without a word; of an archive that is written there with status 3, since it is cut.
+/// A text broken into lines, all of which begin behind so many blanks; those of the first are there already.
+fn wrapped(text: &str, indent: usize) -> String {
+    let mut lines = String::new();
+    let mut column = indent;
+    for word in text.split_whitespace() {
+        let width = word.chars().count();
+        if column > indent && column + 1 + width > WIDTH {
+            lines += &format!("\n{:indent$}", "");
+            column = indent;
+        }
+        if column > indent {
+            lines.push(' ');
+            column += 1;
+        }
+        lines += word;
+        column += width;
+    }
+    lines
+}
 
-Exit status: 0 all well, 1 some lists differ, stayed behind or are no trees, 2 wrong arguments, 3 input or output failed,
-4 an archive is damaged.
-";
+/// A head, and a text beside it or, where the head is long, below it.
+fn entry(head: &str, text: &str, column: usize) -> String {
+    let width = head.chars().count();
+    let text = wrapped(text, column);
+    match width + 2 <= column {
+        true => format!("{head:column$}{text}\n"),
+        false => format!("{head}\n{:column$}{text}\n", ""),
+    }
+}
 
-const CHECK: &str = "\
-sorbrudder check PATH.. [--limit N] [--json]
+fn paragraphs(texts: &[&str]) -> String {
+    let paragraph = |text: &&str| format!("\n{}\n", wrapped(text, 0));
+    texts.iter().map(paragraph).collect()
+}
 
-Reads every list of the archives at its own version, and tells of those that are no trees. Nothing is written.
+fn options(options: &[args::Option]) -> String {
+    let line = |option: &args::Option| {
+        let head = format!("  {}", option.shown());
+        entry(&head, option.says, OPTION_TEXT)
+    };
+    options.iter().map(line).collect()
+}
 
-  --limit N   the nesting limit of the engine that the lists are for, 1 to 4096, which is the usual: a list in which more brackets are
-              open at once is told of, with the token that opens the first too many
-  --json      a line of JSON for every list: file, list, byte, version, result (tree, no-tree, too-deep, refused), messages, text, and
-              token, op, operator, start and end where it is too deep
+/// A way to write a command.
+pub fn usage(command: &Command, way: &str) -> String {
+    let usage = format!("sorbrudder {} {way}", command.name);
+    usage.trim_end().to_string()
+}
 
-An archive that is cut or has a bit turned over is told of on standard error, and the status is 4. In a plain file of words, damage at a
-token's end cannot be seen, which is said once a file.
-";
+/// What there is to say of all commands.
+pub fn all() -> String {
+    let mut text = format!("{}\n\n", wrapped(&format!("sorbrudder: {TITLE}"), 0));
+    for command in COMMANDS {
+        let first = command.usage.first().copied().unwrap_or_default();
+        let head = format!("  {}", usage(command, first));
+        text += &entry(&head, command.line, COMMAND_TEXT);
+        let others = command
+            .usage
+            .iter()
+            .skip(1)
+            .filter(|way| !way.starts_with("-e"));
+        text.extend(others.map(|way| format!("  {}\n", usage(command, way))));
+    }
+    text += "\nWith every command:\n";
+    text += &options(EVERYWHERE);
+    text += &paragraphs(&["`sorbrudder COMMAND --help` says more."]);
+    text += &paragraphs(NOTES);
+    text += "\nExit status:\n";
+    let status = |(number, what): &(&str, &str)| format!("  {number}  {what}\n");
+    text.extend(STATUSES.iter().map(status));
+    text
+}
 
-const DIFF: &str = "\
-sorbrudder diff PATH.. --to V [--json]
+/// What there is to say of a command.
+fn of(command: &Command) -> String {
+    let rest = if command.options.is_empty() {
+        ""
+    } else {
+        " [options]"
+    };
+    let ways = command.usage.iter();
+    let mut text: String = ways
+        .map(|way| format!("{}{rest}\n", usage(command, way)))
+        .collect();
+    text += &paragraphs(command.about);
+    if !command.options.is_empty() {
+        text.push('\n');
+        text += &options(command.options);
+    }
+    text += &paragraphs(command.notes);
+    text
+}
 
-Reads every list at its own version and at V, and tells of those that are not read alike: both readings with all their brackets, the
-first node that differs, and the rule. Nothing is written. Nesting limits are not looked at: `check --limit` and `lift --limit` do.
-
-  --to V    the version to compare with
-  --json    a line of JSON for every list: file, list, byte, version, to, result (same, differs, only-old, only-new, no-tree, refused),
-            and node, op, operator, start, end and reason of the first difference
-";
-
-const LIFT: &str = "\
-sorbrudder lift IN -o OUT --to V [options]
-sorbrudder lift PATH.. --in-place --to V [options]
-
-Writes the lists of IN so that version V reads each as the tree that its own version reads. A list that both read alike is left alone. A
-list that differs is written with brackets; `a - b` in it becomes `a + (- b)`, which is the same tree. A list that is no tree, or cannot
-be written, or is too deep, stays as it is, at its own version, and is told of; then the status is 1. What cannot be written: blocks, loops,
-arrays, members and `->`, a bracket round several parts, a `:` that is not the right side of a `?`, and a list that would have more than
-4,096 tokens with its brackets, which may happen from some 2,050 tokens on. What is too deep: with `--limit N`, a list in which more than N
-brackets are open at once, as it is or with the brackets that it needs; a list can be deeper than it was when it is written.
-
-  -o OUT          a file, a folder where IN is one, or - for standard output
-  --to V          the version to lift to
-  --limit N       the nesting limit of the engine that is lifted to, 1 to 4096, which is the usual
-  --own-limit N   the nesting limit of the engines that the lists were written for; one that is deeper was no tree there
-  --in-place      replaces the files themselves
-  --backup        keeps each old file as FILE.bak, which must not be there yet
-  --dry-run       writes no archive, and tells what would be done; it needs no `-o` and no `--in-place`
-  --strict        a file in which a list stays behind is not written at all; not with `-o -`
-  --settle        writes every list that can be written with all its brackets, so that every version reads it the same; a list that
-                  cannot be, and that both versions read alike, is left alone and told of: another version may read it otherwise
-  --plain         writes plain files of words instead of containers (docs/FORMAT.md)
-  --report FILE   a line of JSON for every list; `--report -` is `--json`
-  --json          the same on standard output: file, list, byte, version, to, result (same, lifted, settled, stays, no-tree, too-deep,
-                  refused), and node or token, op, operator, start, end and reason of what stays behind or is not settled; the reason
-                  of too-deep is as-given, as-written (the token is then one of the list with its brackets) or own-limit
-
-A file is written beside its target, brought to the disk, read back and compared, and then put in the target's place at once. Killed at
-any moment or on a full disk, the old file is whole; a file `.sorbrudder-*.tmp` may be left, and can be deleted. A target, a backup or a
-report that would take the place of a file that is lifted, or of another that is written, is a wrong argument, and nothing is begun.
-";
-
-const READ: &str = "\
-sorbrudder read FILE#N | -e LIST [--at V] [--limit N] [--source TEXT] [--json]
-
-Prints the tree of a list: as a line with all its brackets, and as a drawing, a node a line, with the rule that paired its operands in
-square brackets.
-
-  -e LIST         a list in the notation: names and numbers, Molang's signs, math.sin, variable.x
-  --at V          the version; else the list's own, else 13, the newest
-  --limit N       a nesting limit, 1 to 4096, which is the usual
-  --source TEXT   the file with the text that the list's spans lie in
-  --json          one object: version, source, bracketed, tree, nodes, each with its rule where it has children
-";
-
-const VERSIONS: &str = "\
-sorbrudder versions FILE#N | -e LIST [--at 4,5,6] [--source TEXT] [--json]
-
-Prints a list as several versions read it, a line with all its brackets for each, then the trees where they differ, each once, with a * at
-each node of a part that differs, and in square brackets the rule that paired a node's operands. The status is 1 where the versions differ.
-";
-
-const EXPLAIN: &str = "\
-sorbrudder explain FILE#N | -e LIST [--at V] [--limit N] [--source TEXT] [--json]
-
-Prints why a list is no tree, each message under what it points at; with `--limit N` also the bracket that opens one more than N. The status
-is 1 where it is none.
-";
-
-const DRAW: &str = "\
-sorbrudder draw FILE#N | -e LIST [--at 4,6] [--source TEXT] -o PAGE.html
-
-Writes a page with the trees of two versions side by side, the parts that differ marked, each node with the rule that paired its operands,
-and the source above them. The page is one file without scripts, and can be printed. It never takes the place of what it is drawn from.
-";
-
-const OPS: &str = "\
-sorbrudder ops [--json]
-
-Prints the operators: number, sign or name in Molang, name in the crate, and what it does in words. The numbers 256 to 1023 are the hosts'
-own, for names that Molang does not have; in the notation such a name is # and its number.
-";
+/// Why there is no such command.
+pub fn unknown(name: &str) -> Failure {
+    let names = COMMANDS.iter().map(|command| command.name);
+    let meant = did_you_mean(name, names);
+    Failure::Usage(format!(
+        "there is no command `{name}`{meant}; `sorbrudder --help` lists them"
+    ))
+}
 
 /// Prints what there is to say of a command, or of all.
 pub fn print(command: Option<&str>) -> Result<Status, Failure> {
-    output::print(match command {
-        None => ALL,
-        Some("check") => CHECK,
-        Some("diff") => DIFF,
-        Some("lift") => LIFT,
-        Some("read") => READ,
-        Some("versions") => VERSIONS,
-        Some("explain") => EXPLAIN,
-        Some("draw") => DRAW,
-        Some("ops") => OPS,
-        Some(other) => {
-            let why = format!("there is no command `{other}`; `sorbrudder --help` lists them");
-            return Err(Failure::Usage(why));
+    match command {
+        None => output::print(&all()),
+        Some(name) => match commands::named(name) {
+            Some(command) => output::print(&of(command)),
+            None => Err(unknown(name)),
+        },
+    }
+}
+
+#[cfg(test)]
+mod tests {
+    use super::{WIDTH, all, of};
+    use crate::commands::COMMANDS;
+
+    #[test]
+    fn no_line_is_wider_than_it_may_be() {
+        let texts = COMMANDS.iter().map(of).chain([all()]);
+        for text in texts {
+            for line in text.lines() {
+                assert!(
+                    line.chars().count() <= WIDTH && line == line.trim_end(),
+                    "{line}"
+                );
+            }
         }
-    })
+    }
 }

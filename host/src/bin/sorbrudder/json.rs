@@ -1,6 +1,7 @@
 //! Objects of JSON on a line each.
 
 use std::fmt::Write as _;
+use std::path::Path;
 
 /// An object that fields are added to.
 #[derive(Clone, Debug)]
@@ -25,9 +26,31 @@ impl Object {
         self
     }
 
+    /// A file's name. One that is not UTF-8 is there as near as a text comes to it, and its bytes in hexadecimal beside.
+    pub fn file(&mut self, file: &Path) -> &mut Self {
+        self.text("file", &file.to_string_lossy());
+        if file.to_str().is_none() {
+            let bytes = file.as_os_str().as_encoded_bytes().iter();
+            let bytes: String = bytes.map(|byte| format!("{byte:02x}")).collect();
+            self.text("file_bytes", &bytes);
+        }
+        self
+    }
+
     pub fn number(&mut self, name: &str, value: impl Into<i128>) -> &mut Self {
         self.name(name);
         let _ = write!(self.0, "{}", value.into());
+        self
+    }
+
+    pub fn numbers(&mut self, name: &str, values: &[u32]) -> &mut Self {
+        self.name(name);
+        self.0.push('[');
+        for (place, value) in values.iter().enumerate() {
+            let before = if place > 0 { "," } else { "" };
+            let _ = write!(self.0, "{before}{value}");
+        }
+        self.0.push(']');
         self
     }
 

@@ -6,12 +6,13 @@ mod places;
 
 use crate::args::Args;
 use crate::failure::{Failure, Status};
+use crate::helpers::Helpers;
 use crate::output;
 use crate::paths;
 use crate::replace::Replacement;
-use crate::several::{self, Sink, Stderr, Stdout, Teller};
+use crate::several::{self, How, Sink, Stderr, Stdout, Teller};
+use crate::summary;
 use carry::Carried;
-pub use options::OPTIONS;
 use options::{Options, Target};
 use std::io::Write as _;
 use std::path::Path;
@@ -32,14 +33,15 @@ impl Sink for Lines {
             return Ok(());
         };
         let written = report.write_all(text.as_bytes());
-        written.map_err(|why| Failure::Io(format!("the report: {why}")))
+        written.map_err(|why| report.failed(&why))
     }
 }
 
 pub fn run(args: &Args) -> Result<Status, Failure> {
     let options = Options::of(args)?;
-    let files = paths::files(&args.rest)?;
-    places::check(args, &files, &options)?;
+    let found = paths::find(args)?;
+    let files = &found.files;
+    places::check(args, files, &options)?;
     let lines: Box<dyn Sink> = if options.target == Target::Stdout {
         Box::new(Stderr)
     } else {
@@ -52,29 +54,45 @@ pub fn run(args: &Args) -> Result<Status, Failure> {
     let report = options.report.as_deref().map(Replacement::of).transpose()?;
     let mut lines = Lines { lines, report };
     let (mut sum, mut done) = (Carried::default(), 0);
-    let lift = |file: &Path, teller: &mut Teller<Carried>| carry::carry(file, &options, teller);
-    let status = several::each(&files, options.is_json, &mut lines, lift, |carried| {
+    let how = How {
+        task: &options,
+        jobs: args.jobs()?,
+        is_json: options.is_json,
+    };
+    let lift = |file: &Path, teller: &mut Teller<Carried>, helpers: &Helpers<'_, Options>| {
+        carry::carry(file, &options, teller, helpers)
+    };
+    let status = several::each(&how, files, &mut lines, lift, |carried| {
         sum.join(carried);
         done += 1;
     })?;
+    let is_found = sum.stayed() > 0;
+    let status = status.max(if is_found {
+        Status::Found
+    } else {
+        Status::Well
+    });
+    let failed = (files.len() - done) as u64;
+    let counted = [files.len() as u64, failed, found.skipped];
+    let record = summary::record("lift", Some(options.to), counted, &sum.counts(), status);
+    if options.is_json {
+        lines.text(&record)?;
+    }
+    lines.report(&record)?;
     if let Some(report) = lines.report {
         report.put_in_place()?;
     }
     tell(&sum, &options, files.len() - done);
-    let found = if sum.stayed() > 0 {
-        Status::Found
-    } else {
-        Status::Well
-    };
-    Ok(status.max(found))
+    found.tell();
+    Ok(status)
 }
 
 /// The summary.
 fn tell(sum: &Carried, options: &Options, failed: usize) {
     let (to, stayed) = (options.to, sum.stayed());
     output::tell(&format!(
-        "{} lists to version {to}: {} written anew ({} of them scripts), {} left alone (both versions read them alike), {stayed} stayed behind \
-         ({} no trees, {} refused, {} not writable, {} too deep)",
+        "{} lists to version {to}: {} written anew ({} of them scripts), {} left alone (both versions read them alike), \
+         {stayed} stayed behind ({} no trees, {} refused, {} not writable, {} too deep)",
         sum.lists,
         sum.written,
         sum.scripts,
@@ -93,6 +111,12 @@ fn tell(sum: &Carried, options: &Options, failed: usize) {
     if failed > 0 {
         output::tell(&format!(
             "{failed} files could not be lifted; their lists are not counted"
+        ));
+    }
+    if sum.untouched > 0 {
+        output::tell(&format!(
+            "{} files were left as they are, since all their lists stay",
+            sum.untouched
         ));
     }
     if options.target == Target::Nothing {

@@ -1,9 +1,10 @@
 //! What is told of one list: a line of text, or a line of JSON.
 
+use crate::escape;
 use crate::failure::Failure;
+use crate::input::Listed;
 use crate::json::Object;
-use sorbrudder::archive::List;
-use sorbrudder::{LiftError, Limit, Op, ReadError, Span, Token};
+use sorbrudder::{LiftError, Limit, Message, Op, ReadError, Span, Token};
 use std::path::Path;
 
 /// Which list it is about.
@@ -16,7 +17,7 @@ pub struct About<'f> {
 }
 
 impl<'f> About<'f> {
-    pub fn list(file: &'f Path, list: &List<'_>) -> Self {
+    pub fn list(file: &'f Path, list: Listed<'_>) -> Self {
         Self {
             file,
             number: list.number,
@@ -66,8 +67,63 @@ pub struct Line {
     pub place: Option<Place>,
     /// One word for why.
     pub reason: Option<&'static str>,
-    /// The numbers of messages, or the number of a refusal.
-    pub numbers: Vec<u32>,
+    /// The rule by which the versions differ.
+    pub rule: Option<&'static str>,
+    /// Messages, or a refusal.
+    pub messages: Vec<Said>,
+    /// How the list is read with all its brackets, at its own version and at the other.
+    pub readings: [Option<String>; 2],
+    /// The list as it was and as it is written, in the notation.
+    pub lists: Option<[String; 2]>,
+}
+
+/// A message or a refusal: its number, where it points, and its words.
+#[derive(Clone, Debug)]
+pub struct Said {
+    number: u32,
+    span: Option<Span>,
+    text: String,
+}
+
+impl Said {
+    fn refusal(number: u32) -> Self {
+        Self {
+            number,
+            span: None,
+            text: String::new(),
+        }
+    }
+
+    fn too_deep(place: Option<Place>) -> Self {
+        Self {
+            span: place.map(|place| place.span),
+            ..Self::refusal(TOO_DEEP)
+        }
+    }
+
+    fn as_json(&self) -> Object {
+        let mut object = Object::new();
+        object.number("number", self.number);
+        if let Some(span) = self.span {
+            object
+                .number("start", span.start())
+                .number("end", span.end());
+        }
+        if !self.text.is_empty() {
+            object.text("text", &self.text);
+        }
+        object
+    }
+}
+
+impl From<&Message> for Said {
+    fn from(message: &Message) -> Self {
+        Self {
+            number: message.number(),
+            span: Some(message.span()),
+            text: message.to_string(),
+        }
+    }
 }
 
 /// The library's number for a list that is too deep.
@@ -82,7 +138,7 @@ pub fn of_failure(file: &Path, failure: &Failure) -> String {
     };
     let mut object = Object::new();
     object
-        .text("file", &file.to_string_lossy())
+        .file(file)
         .text("result", result)
         .text("text", failure.text().unwrap_or_default());
     object.done() + "\n"
@@ -96,24 +152,24 @@ impl Line {
             text: String::new(),
             place: None,
             reason: None,
-            numbers: Vec::new(),
+            rule: None,
+            messages: Vec::new(),
+            readings: [None, None],
+            lists: None,
         }
     }
 
     /// The line about a list that is no tree.
     pub fn of_read_error(why: &ReadError, to: Option<i16>) -> Self {
-        let (result, numbers) = match why {
-            ReadError::Messages(messages) => {
-                let numbers = messages.iter().map(|message| message.number());
-                ("no-tree", numbers.collect())
-            }
-            ReadError::Refused(refusal) => ("refused", vec![refusal.number()]),
-            ReadError::TooDeep { .. } => ("too-deep", vec![TOO_DEEP]),
+        let (result, messages) = match why {
+            ReadError::Messages(messages) => ("no-tree", messages.iter().map(Said::from).collect()),
+            ReadError::Refused(refusal) => ("refused", vec![Said::refusal(refusal.number())]),
+            ReadError::TooDeep { .. } => ("too-deep", vec![Said::refusal(TOO_DEEP)]),
             _ => ("refused", Vec::new()),
         };
         Self {
             text: format!("no tree: {why}"),
-            numbers,
+            messages,
             ..Self::new(result, to)
         }
     }
@@ -127,7 +183,7 @@ impl Line {
         Self {
             text: format!("too deep for {limit}: token {token}{at}"),
             place,
-            numbers: vec![TOO_DEEP],
+            messages: vec![Said::too_deep(place)],
             ..Self::new("too-deep", to)
         }
     }
@@ -165,7 +221,6 @@ impl Line {
                 ..
             } => {
                 line.result = "too-deep";
-                line.numbers = vec![TOO_DEEP];
                 line.reason = Some(if *is_written {
                     "as-written"
                 } else {
@@ -176,6 +231,7 @@ impl Line {
                     op: *op,
                     span: *span,
                 });
+                line.messages = vec![Said::too_deep(line.place)];
             }
             LiftError::NotPlain {
                 node,
@@ -205,7 +261,7 @@ impl Line {
             byte,
             version,
         } = about;
-        let file = file.display();
+        let file = escape::path(file);
         format!(
             "{file} list {number} (byte {byte}, version {version}): {}\n",
             self.text
@@ -215,7 +271,7 @@ impl Line {
     pub fn as_json(&self, about: About<'_>) -> String {
         let mut object = Object::new();
         object
-            .text("file", &about.file.to_string_lossy())
+            .file(about.file)
             .number("list", about.number)
             .number("byte", about.byte)
             .number("version", about.version);
@@ -238,13 +294,20 @@ impl Line {
         if let Some(reason) = self.reason {
             object.text("reason", reason);
         }
-        if !self.numbers.is_empty() {
-            let numbers = self.numbers.iter().map(|number| {
-                let mut object = Object::new();
-                object.number("number", *number);
-                object
-            });
-            object.objects("messages", numbers);
+        let names = ["own_reading", "to_reading"];
+        for (name, reading) in names.iter().zip(&self.readings) {
+            if let Some(reading) = reading {
+                object.text(name, reading);
+            }
+        }
+        if let Some(rule) = self.rule {
+            object.text("rule", rule);
+        }
+        if let Some([before, after]) = &self.lists {
+            object.text("list_before", before).text("list_after", after);
+        }
+        if !self.messages.is_empty() {
+            object.objects("messages", self.messages.iter().map(Said::as_json));
         }
         if !self.text.is_empty() {
             object.text("text", &self.text);

@@ -1,12 +1,10 @@
 //! `sorbrudder ops`: the operators.
 
-use crate::args::{self, Args};
+use crate::args::Args;
 use crate::failure::{Failure, Status};
 use crate::json::Object;
 use crate::output;
 use sorbrudder::Op;
-
-pub const OPTIONS: &[args::Option] = &[args::flag("--json")];
 
 pub fn run(args: &Args) -> Result<Status, Failure> {
     if !args.rest.is_empty() {

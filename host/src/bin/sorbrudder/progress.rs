@@ -1,6 +1,7 @@
 //! The line on a terminal that says how far a command is.
 
 use crate::input::READ;
+use crate::output;
 use std::io::{self, IsTerminal as _, Write as _};
 use std::sync::atomic::Ordering;
 use std::time::{Duration, Instant};
@@ -23,7 +24,7 @@ impl Progress {
             begun: Instant::now(),
             shown: None,
             total,
-            is_seen: io::stderr().is_terminal(),
+            is_seen: io::stderr().is_terminal() && !output::is_quiet(),
         }
     }
 

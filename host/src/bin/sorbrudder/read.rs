@@ -1,22 +1,15 @@
 //! `sorbrudder read`: the tree of one list.
 
-use crate::args::{self, Args};
+use crate::args::Args;
 use crate::bracketed;
 use crate::drawing;
+use crate::escape;
 use crate::explain;
 use crate::failure::{Failure, Status};
 use crate::json::Object;
-use crate::one_list::{self, OneList};
+use crate::one_list::OneList;
 use crate::output;
 use sorbrudder::{Node, Reader, Tree};
-
-pub const OPTIONS: &[args::Option] = &[
-    one_list::E,
-    one_list::SOURCE,
-    args::value("--at"),
-    args::value("--limit"),
-    args::flag("--json"),
-];
 
 /// The newest version whose rules are known; what is read at where nothing is said.
 pub const NEWEST: i16 = 13;
@@ -37,12 +30,10 @@ pub fn run(args: &Args) -> Result<Status, Failure> {
 
 /// The bracketed line and the drawing.
 pub fn as_text(tree: &Tree, one: &OneList, version: i16) -> String {
-    let mut text = format!(
-        "version {version}   {}\n\n",
-        bracketed::line(tree.view(), Some(&one.source))
-    );
+    let line = bracketed::line(tree.view(), Some(&one.source));
+    let mut text = format!("version {version}   {}\n\n", escape::line(&line));
     for row in drawing::rows(tree.view(), &one.source) {
-        text += &format!("{}\n", row.line());
+        text += &format!("{}\n", escape::line(&row.line()));
     }
     text
 }

@@ -1,8 +1,9 @@
-//! Several files, two at a time, their output in the order of the files.
+//! Several files at a time, their output in the order of the files.
 
 use crate::failure::{Failure, Status};
+use crate::helpers::{Helpers, Task};
 use crate::line::of_failure;
-use crate::output::tell;
+use crate::output::{complain, tell};
 use crate::paths::is_stream;
 use crate::progress::{PAUSE, Progress};
 use std::collections::VecDeque;
@@ -11,8 +12,8 @@ use std::path::{Path, PathBuf};
 use std::sync::mpsc::{Receiver, RecvTimeoutError, SyncSender, sync_channel};
 use std::thread::{Scope, scope};
 
-/// How many files are worked on at once.
-const AT_ONCE: usize = 2;
+/// The most files that are worked on at once.
+const AT_ONCE: usize = 8;
 
 /// How many pieces of output of a file may wait for their turn, and how long a piece is.
 const WAITING: usize = 16;
@@ -35,9 +36,12 @@ pub struct Teller<T> {
 }
 
 impl<T> Teller<T> {
-    /// Whether nobody listens any more.
-    pub fn is_closed(&self) -> bool {
-        self.is_closed
+    /// Complains where nobody listens any more.
+    pub fn open(&self) -> Result<(), Failure> {
+        match self.is_closed {
+            true => Err(Failure::Closed),
+            false => Ok(()),
+        }
     }
 
     /// Output.
@@ -92,9 +96,9 @@ impl Sink for Stdout {
         if self.is_closed {
             return Ok(());
         }
-        match crate::output::print(text) {
+        match crate::output::write(text) {
             Err(Failure::Closed) if self.goes_on => self.is_closed = true,
-            other => _ = other?,
+            other => other?,
         }
         Ok(())
     }
@@ -111,25 +115,33 @@ impl Sink for Stderr {
     }
 }
 
+/// How the work is done: what with each list, by how many threads, and whether what is told is JSON.
+pub struct How<'k, K> {
+    pub task: &'k K,
+    pub jobs: usize,
+    pub is_json: bool,
+}
+
 /// Works on each file, and adds up what comes of it. A file that fails is told of, in JSON too where that is asked for, and the others are
 /// worked on all the same. A failure of which there is nothing to say ends the work.
-pub fn each<T: Send>(
+pub fn each<K: Task, T: Send>(
+    how: &How<'_, K>,
     files: &[PathBuf],
-    is_json: bool,
     sink: &mut dyn Sink,
-    work: impl Fn(&Path, &mut Teller<T>) -> Result<T, Failure> + Sync,
+    work: impl Fn(&Path, &mut Teller<T>, &Helpers<'_, K>) -> Result<T, Failure> + Sync,
     mut add: impl FnMut(T),
 ) -> Result<Status, Failure> {
     let mut progress = Progress::over(bytes_of(files));
     let mut status = Status::Well;
     scope(|scope| {
+        let helpers = Helpers::begin(scope, how.jobs, how.task)?;
         let mut waiting = files.iter();
         let mut begun = VecDeque::new();
         loop {
-            while begun.len() < AT_ONCE
+            while begun.len() < how.jobs.min(AT_ONCE)
                 && let Some(file) = waiting.next()
             {
-                begun.push_back(begin(scope, file, is_json, &work)?);
+                begun.push_back(begin(scope, file, how.is_json, helpers.clone(), &work)?);
             }
             let Some(told) = begun.pop_front() else {
                 return Ok(());
@@ -140,7 +152,7 @@ pub fn each<T: Send>(
                     let Some(text) = failure.text() else {
                         return Err(failure);
                     };
-                    tell(&format!("sorbrudder: {text}"));
+                    complain(&format!("sorbrudder: {text}"));
                     status = status.max(failure.status());
                 }
             }
@@ -160,11 +172,12 @@ fn bytes_of(files: &[PathBuf]) -> u64 {
 }
 
 /// Begins the work on a file on a thread of its own.
-fn begin<'s, T: Send + 's>(
+fn begin<'s, K: Task, T: Send + 's>(
     scope: &'s Scope<'s, '_>,
     file: &'s Path,
     is_json: bool,
-    work: &'s (impl Fn(&Path, &mut Teller<T>) -> Result<T, Failure> + Sync),
+    helpers: Helpers<'s, K>,
+    work: &'s (impl Fn(&Path, &mut Teller<T>, &Helpers<'_, K>) -> Result<T, Failure> + Sync),
 ) -> Result<Receiver<Told<T>>, Failure> {
     let (to, told) = sync_channel(WAITING);
     let run = move || {
@@ -174,7 +187,7 @@ fn begin<'s, T: Send + 's>(
             report: String::new(),
             is_closed: false,
         };
-        let done = work(file, &mut teller);
+        let done = work(file, &mut teller, &helpers);
         if let Err(failure) = &done {
             let line = of_failure(file, failure);
             teller.report(&line);

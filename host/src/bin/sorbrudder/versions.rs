@@ -1,21 +1,16 @@
 //! `sorbrudder versions`: one list as several versions read it, and the trees where they differ.
 
-use crate::args::{self, Args};
+use crate::args::Args;
 use crate::bracketed;
 use crate::drawing::{self, Row};
+use crate::escape;
 use crate::failure::{Failure, Status};
 use crate::json::Object;
-use crate::one_list::{self, OneList};
+use crate::one_list::OneList;
 use crate::output;
 use crate::rules;
+use crate::width;
 use sorbrudder::{Node, ReadError, Reader, Tree};
-
-pub const OPTIONS: &[args::Option] = &[
-    one_list::E,
-    one_list::SOURCE,
-    args::value("--at"),
-    args::flag("--json"),
-];
 
 /// The versions that the rules change at, and the one before.
 const USUAL: [i16; 3] = [4, 5, 6];
@@ -41,7 +36,7 @@ pub fn run(args: &Args) -> Result<Status, Failure> {
             .map(|reading| as_json(reading, &one.source))
             .collect()
     } else {
-        as_text(&readings, &one.source)
+        as_text(&readings, &one)
     };
     output::print(&text)?;
     let is_alike = readings
@@ -80,10 +75,12 @@ fn as_json(reading: &Reading, source: &str) -> String {
     object.done() + "\n"
 }
 
-fn as_text(readings: &[Reading], source: &str) -> String {
-    let mut text = format!("{source}\n\n");
+fn as_text(readings: &[Reading], one: &OneList) -> String {
+    let source = &one.source;
+    let mut text = format!("{}\n\n", one.shown());
     for reading in readings {
-        text += &format!("version {:<4} {}\n", reading.version, line(reading, source));
+        let line = line(reading, source);
+        text += &format!("version {:<4} {}\n", reading.version, escape::line(&line));
     }
     let trees = distinct(readings);
     if trees.len() > 1 {
@@ -176,7 +173,7 @@ fn side_by_side(trees: &[Alike<'_>], source: &str) -> String {
         .map(|place| column(trees, place, source))
         .collect();
     let widths = columns.iter().map(|column| {
-        let lines = column.iter().map(|(_, line)| line.chars().count());
+        let lines = column.iter().map(|(_, line)| width::of_text(line));
         lines.max().unwrap_or(0) + 4
     });
     let widths: Vec<usize> = widths.collect();
@@ -189,7 +186,8 @@ fn side_by_side(trees: &[Alike<'_>], source: &str) -> String {
             let (is_marked, cell) = column
                 .get(row)
                 .map_or((false, ""), |(marked, cell)| (*marked, cell));
-            let cell = format!("{cell:width$}");
+            let blank = width.saturating_sub(width::of_text(cell));
+            let cell = format!("{cell}{:blank$}", "");
             match is_marked && is_coloured {
                 true => line += &format!("\x1b[1;31m{cell}\x1b[0m"),
                 false => line += &cell,
@@ -214,7 +212,7 @@ fn column(trees: &[Alike<'_>], place: usize, source: &str) -> Vec<(bool, String)
         let rule = alike.rule(row.node);
         (
             marked[row.node],
-            format!("{sign}{}{}{rule}", row.branches, row.label),
+            format!("{sign}{}{}{rule}", row.branches, escape::line(&row.label)),
         )
     };
     std::iter::once((false, alike.head()))

@@ -1,17 +1,21 @@
 //! One archive carried over to a version.
 
 use super::options::{Options, Target};
+use crate::bracketed;
 use crate::check::note_words;
+use crate::diff;
 use crate::failure::Failure;
-use crate::input::Input;
+use crate::helpers::{Helpers, Task};
+use crate::input::{Batch, Input, Listed};
 use crate::line::{About, Line};
+use crate::lock::Held;
 use crate::replace::{self, Replacement};
 use crate::several::Teller;
-use sorbrudder::archive::{List, Lists, ListsWriter};
-use sorbrudder::{LiftError, LiftedWords, Lifter, Op};
+use crate::written::{Digest, read_back};
+use sorbrudder::archive::{Encoded, Format, ListsWriter};
+use sorbrudder::{LiftError, LiftedWords, Lifter, Op, Reader, Tokens};
 use std::io::{self, BufWriter, Write};
 use std::path::Path;
-use std::time::SystemTime;
 
 /// What became of lists.
 #[derive(Clone, Copy, Debug, Default)]
@@ -29,6 +33,8 @@ pub struct Carried {
     pub too_deep: u64,
     /// Files that were not written, since lists stayed behind.
     pub held_back: u64,
+    /// Files that were not touched, since all their lists stay as they are.
+    pub untouched: u64,
 }
 
 impl Carried {
@@ -49,6 +55,23 @@ impl Carried {
         } += 1;
     }
 
+    /// The counts by their names in the summary's record.
+    pub fn counts(&self) -> [(&'static str, u64); 11] {
+        [
+            ("lists", self.lists),
+            ("written", self.written),
+            ("scripts", self.scripts),
+            ("same", self.same),
+            ("unsettled", self.unsettled),
+            ("no_trees", self.no_trees),
+            ("refused", self.refused),
+            ("not_writable", self.not_writable),
+            ("too_deep", self.too_deep),
+            ("held_back", self.held_back),
+            ("untouched", self.untouched),
+        ]
+    }
+
     pub fn join(&mut self, other: Self) {
         self.lists += other.lists;
         self.written += other.written;
@@ -60,31 +83,7 @@ impl Carried {
         self.not_writable += other.not_writable;
         self.too_deep += other.too_deep;
         self.held_back += other.held_back;
-    }
-}
-
-/// A number over lists: equal for equal lists in the same order.
-#[derive(Clone, Copy, Debug, PartialEq, Eq)]
-struct Digest {
-    lists: u64,
-    mixed: u64,
-}
-
-impl Digest {
-    fn new() -> Self {
-        Self {
-            lists: 0,
-            mixed: 0xCBF2_9CE4_8422_2325,
-        }
-    }
-
-    fn add(&mut self, version: i16, words: &[u32]) {
-        self.lists += 1;
-        let mut mix =
-            |number: u64| self.mixed = (self.mixed ^ number).wrapping_mul(0x100_0000_01B3);
-        mix(version as u64);
-        mix(words.len() as u64);
-        words.iter().for_each(|word| mix(u64::from(*word)));
+        self.untouched += other.untouched;
     }
 }
 
@@ -93,44 +92,157 @@ pub fn carry(
     file: &Path,
     options: &Options,
     teller: &mut Teller<Carried>,
+    helpers: &Helpers<'_, Options>,
 ) -> Result<Carried, Failure> {
-    let mut input = Input::open(file)?;
+    let held = match options.target {
+        Target::InPlace => Some(Held::of(file)?),
+        _ => None,
+    };
+    let mut input = match &held {
+        Some(held) => Input::of(file, held.file().map_err(|why| Failure::io(file, &why))?)?,
+        None => Input::open(file)?,
+    };
     note_words(&input, teller);
     let Some(target) = options.target_of(file) else {
         let out: Box<dyn Write> = match options.target {
             Target::Stdout => Box::new(BufWriter::with_capacity(1 << 16, io::stdout())),
             _ => Box::new(io::sink()),
         };
-        let (carried, _, _) = carry_lists(&mut input, options, out, teller)?;
-        return Ok(carried);
+        return Ok(carry_lists(&mut input, options, out, teller, helpers)?.carried);
     };
-    let before = last_change(file);
     if let (Target::Folder(..), Some(folder)) = (&options.target, target.parent()) {
         std::fs::create_dir_all(folder).map_err(|why| Failure::io(folder, &why))?;
     }
     let replacement = Replacement::of(&target)?;
-    let (mut carried, digest, mut replacement) =
-        carry_lists(&mut input, options, replacement, teller)?;
-    read_back(&mut replacement, digest, &target)?;
+    let written = carry_lists(&mut input, options, replacement, teller, helpers)?;
+    let (mut carried, mut replacement) = (written.carried, written.out);
     if options.is_strict && carried.stayed() > 0 {
         carried.held_back = 1;
         return Ok(carried);
     }
-    if options.target == Target::InPlace && last_change(file) != before {
-        let why = "it was changed while it was lifted; nothing was written";
-        return Err(Failure::Io(format!("{}: {why}", file.display())));
+    if held.is_some() && !written.is_changed {
+        carried.untouched = 1;
+        return Ok(carried);
+    }
+    read_back(&mut replacement, written.digest, &target)?;
+    if let Some(held) = &held {
+        replacement.check(held.seen())?;
     }
     if options.backs_up {
         replace::back_up(file)?;
     }
-    replacement.put_in_place()?;
+    match held {
+        Some(held) => replacement.put_in_place_of(held.seen())?,
+        None => replacement.put_in_place()?,
+    }
     Ok(carried)
 }
 
-/// When a file was changed last, and its length.
-fn last_change(file: &Path) -> Option<(SystemTime, u64)> {
-    let file = std::fs::metadata(file).ok()?;
-    Some((file.modified().ok()?, file.len()))
+/// What was written.
+struct Written<W> {
+    carried: Carried,
+    digest: Digest,
+    /// Whether it is another file than the one that was read.
+    is_changed: bool,
+    out: W,
+}
+
+/// The format to write, which is said where it is another than the file's.
+fn format(input: &Input, options: &Options, teller: &mut Teller<Carried>) -> Format {
+    let (from, file) = (input.format(), input.path.display());
+    let format = options.format.unwrap_or(from);
+    match (from, format) {
+        (Format::Words, Format::Container) => teller.note(format!(
+            "{file}: a plain file of words becomes a container (--container)"
+        )),
+        (Format::Container, Format::Words) => teller.note(format!(
+            "{file}: a container becomes a plain file of words (--plain)"
+        )),
+        _ => {}
+    }
+    format
+}
+
+/// What comes of a batch of lists.
+#[derive(Default)]
+pub struct Lifted {
+    carried: Carried,
+    /// The lists as they are written to a container, or to a plain file.
+    encoded: Encoded,
+    lists: Batch,
+    failed: Option<io::Error>,
+    /// The digests of the lists.
+    digests: Vec<u64>,
+    is_changed: bool,
+    text: String,
+    report: String,
+}
+
+/// What a thread lifts with, and reads with where both readings are told.
+pub struct Tools {
+    lifter: Lifter,
+    readers: Option<(Reader, Reader)>,
+}
+
+impl Options {
+    /// Whether each list that is written anew is told of with all that there is to say.
+    fn tells_all(&self) -> bool {
+        self.is_json || self.shows || self.report.is_some()
+    }
+}
+
+impl Task for Options {
+    type State = Tools;
+    type Done = Lifted;
+
+    fn state(&self) -> Tools {
+        let lifter = Lifter::new()
+            .with_limit_from(self.own_limit)
+            .with_limit_to(self.limit);
+        let readers = self.tells_all().then(|| (Reader::new(), Reader::new()));
+        Tools { lifter, readers }
+    }
+
+    fn work(&self, tools: &mut Tools, file: &Path, batch: &Batch) -> Lifted {
+        let Tools { lifter, readers } = tools;
+        let mut done = Lifted::default();
+        let is_plain = self.format.or(batch.format) == Some(Format::Words);
+        for list in batch.lists() {
+            let unsettled = unsettled(lifter, list, self);
+            let (line, version, words) = match lift_list(lifter, list, self, unsettled) {
+                Ok(lifted) => {
+                    let is_script = lifted.tree.root().op() == Op::SEMICOLON;
+                    done.carried.scripts += u64::from(lifted.changed && is_script);
+                    done.carried.unsettled += u64::from(unsettled.is_some());
+                    let line = told(&lifted, list, self, unsettled);
+                    let line = match readers {
+                        Some(readers) if lifted.changed => with_all(line, &lifted, list, readers),
+                        _ => line,
+                    };
+                    (line, self.to, lifted.words)
+                }
+                Err(why) => (
+                    Line::of_lift_error(&why, list.words, self.own_limit, self.to),
+                    list.version,
+                    list.words,
+                ),
+            };
+            done.is_changed |= version != list.version || words != list.words;
+            done.digests.push(Digest::of_list(version, words));
+            if is_plain {
+                done.lists.push(Listed {
+                    version,
+                    words,
+                    ..list
+                });
+            } else if let Err(why) = done.encoded.add(version, words) {
+                done.failed = Some(why);
+            }
+            done.carried.add(line.result);
+            tell(&line, About::list(file, list), self, &mut done);
+        }
+        done
+    }
 }
 
 /// Lifts every list, writes it, and tells of it.
@@ -139,8 +251,11 @@ fn carry_lists<W: Write>(
     options: &Options,
     out: W,
     teller: &mut Teller<Carried>,
-) -> Result<(Carried, Digest, W), Failure> {
+    helpers: &Helpers<'_, Options>,
+) -> Result<Written<W>, Failure> {
     let path = input.path.clone();
+    let format = format(input, options, teller);
+    let mut is_changed = format != input.format();
     let failed = |why: io::Error| match why.kind() {
         io::ErrorKind::BrokenPipe if options.target == Target::Stdout => Failure::Cut,
         _ => Failure::Io(format!(
@@ -148,39 +263,38 @@ fn carry_lists<W: Write>(
             path.display()
         )),
     };
-    let mut writer = ListsWriter::new(out, options.format).map_err(failed)?;
+    let mut writer = ListsWriter::new(out, format).map_err(failed)?;
     let (mut carried, mut digest) = (Carried::default(), Digest::new());
-    let mut lifter = Lifter::new()
-        .with_limit_from(options.own_limit)
-        .with_limit_to(options.limit);
-    while let Some(list) = input.next_list()? {
-        let about = About::list(&path, &list);
-        let unsettled = unsettled(&mut lifter, &list, options);
-        let (line, version, words) = match lift_list(&mut lifter, &list, options, unsettled) {
-            Ok(lifted) => {
-                let is_script = lifted.tree.root().op() == Op::SEMICOLON;
-                carried.scripts += u64::from(lifted.changed && is_script);
-                carried.unsettled += u64::from(unsettled.is_some());
-                let line = told(&lifted, &list, options, unsettled);
-                (line, options.to, lifted.words)
+    helpers.each(input, |done| {
+        if let Some(why) = done.failed {
+            return Err(failed(why));
+        }
+        match format {
+            Format::Container => writer.append(&done.encoded).map_err(failed)?,
+            Format::Words => {
+                for list in done.lists.lists() {
+                    writer.write(list.version, list.words).map_err(failed)?;
+                }
             }
-            Err(why) => (
-                Line::of_lift_error(&why, list.words, options.own_limit, options.to),
-                list.version,
-                list.words,
-            ),
-        };
-        writer.write(version, words).map_err(failed)?;
-        digest.add(version, words);
-        carried.add(line.result);
-        tell(&line, about, options, teller);
-    }
+        }
+        done.digests.iter().for_each(|list| digest.add_list(*list));
+        is_changed |= done.is_changed;
+        carried.join(done.carried);
+        teller.report(&done.report);
+        teller.text(&done.text);
+        Ok(())
+    })?;
     let (out, _) = writer.finish().map_err(failed)?;
-    Ok((carried, digest, out))
+    Ok(Written {
+        carried,
+        digest,
+        is_changed,
+        out,
+    })
 }
 
 /// Why a list that is to be settled cannot be: it is not plain, or too deep with all its brackets.
-fn unsettled(lifter: &mut Lifter, list: &List<'_>, options: &Options) -> Option<LiftError> {
+fn unsettled(lifter: &mut Lifter, list: Listed<'_>, options: &Options) -> Option<LiftError> {
     match options.settles {
         true => lifter.settle_words(list.words, list.version).err(),
         false => None,
@@ -190,7 +304,7 @@ fn unsettled(lifter: &mut Lifter, list: &List<'_>, options: &Options) -> Option<
 /// The list as it is settled, or lifted. One that cannot be settled stays as it is where both versions read it alike.
 fn lift_list<'l>(
     lifter: &'l mut Lifter,
-    list: &'l List<'_>,
+    list: Listed<'l>,
     options: &Options,
     unsettled: Option<LiftError>,
 ) -> Result<LiftedWords<'l>, LiftError> {
@@ -206,7 +320,7 @@ fn lift_list<'l>(
 /// The line about a list that was lifted, or left alone.
 fn told(
     lifted: &LiftedWords<'_>,
-    list: &List<'_>,
+    list: Listed<'_>,
     options: &Options,
     unsettled: Option<LiftError>,
 ) -> Line {
@@ -225,44 +339,59 @@ fn told(
     Line::new(result, Some(options.to))
 }
 
-/// Tells of a list: in text only where it stays behind, or is left alone and was to be settled.
-fn tell(line: &Line, about: About<'_>, options: &Options, teller: &mut Teller<Carried>) {
+/// The line about a list that is written anew, with both readings of the old list, the rule, and both lists.
+fn with_all(
+    line: Line,
+    lifted: &LiftedWords<'_>,
+    list: Listed<'_>,
+    (old, new): &mut (Reader, Reader),
+) -> Line {
+    let to = line.to.unwrap_or(list.version);
+    let compared = diff::compare(old, new, list, to);
+    let readings = match compared.result {
+        // It is settled: both versions read it as this.
+        "same" => [0, 1].map(|_| Some(bracketed::line(lifted.tree, None))),
+        _ => compared.readings,
+    };
+    let text = |words: &[u32]| Tokens::from_words(words).map(|list| list.to_string());
+    let lists = text(list.words).zip(text(lifted.words));
+    Line {
+        result: line.result,
+        readings,
+        lists: lists.map(|(before, after)| [before, after]),
+        ..compared
+    }
+}
+
+/// A list as it was and as it is, a line each.
+fn shown([before, after]: &[String; 2], is_coloured: bool) -> String {
+    match is_coloured {
+        true => format!("\x1b[31m- {before}\x1b[0m\n\x1b[32m+ {after}\x1b[0m\n"),
+        false => format!("- {before}\n+ {after}\n"),
+    }
+}
+
+/// Tells of a list: in text only where it stays behind, or is left alone and was to be settled, or is to be shown.
+fn tell(line: &Line, about: About<'_>, options: &Options, done: &mut Lifted) {
     if options.report.is_some() {
-        teller.report(&line.as_json(about));
+        done.report += &line.as_json(about);
     }
     if options.is_json {
-        teller.text(&line.as_json(about));
+        done.text += &line.as_json(about);
+    } else if let (true, Some(lists)) = (options.shows, &line.lists) {
+        let head = Line {
+            text: format!("{} to version {}", line.result, options.to),
+            ..line.clone()
+        };
+        done.text += &head.as_text(about);
+        done.text += &shown(lists, options.is_coloured);
     } else if line.result == "same" && !line.text.is_empty() {
-        teller.text(&line.as_text(about));
+        done.text += &line.as_text(about);
     } else if !matches!(line.result, "lifted" | "settled" | "same") {
         let stays = Line {
             text: format!("stays behind: {}", line.text),
             ..line.clone()
         };
-        teller.text(&stays.as_text(about));
-    }
-}
-
-/// Reads what was written, and compares it with what was meant, before anything is replaced by it.
-fn read_back(written: &mut Replacement, meant: Digest, target: &Path) -> Result<(), Failure> {
-    let file = written.synced()?;
-    let failed = |why| {
-        Failure::Io(format!(
-            "{}: what was written reads back otherwise: {why}",
-            target.display()
-        ))
-    };
-    if meant.lists == 0 && file.metadata().is_ok_and(|file| file.len() == 0) {
-        return Ok(());
-    }
-    let mut lists = Lists::new(file).map_err(|why| failed(why.to_string()))?;
-    let mut found = Digest::new();
-    while let Some(list) = lists.next_list().map_err(|why| failed(why.to_string()))? {
-        found.add(list.version, list.words);
-    }
-    match found == meant {
-        true => Ok(()),
-        false if found.lists == meant.lists => Err(failed("other lists".to_string())),
-        false => Err(failed(format!("{} lists of {}", found.lists, meant.lists))),
+        done.text += &stays.as_text(about);
     }
 }

@@ -1,26 +1,12 @@
 //! What `sorbrudder lift` is told.
 
-use crate::args::{self, Args};
+use crate::args::Args;
 use crate::failure::Failure;
+use crate::output::is_coloured;
 use crate::paths::{is_stream, place_of};
 use sorbrudder::Limit;
 use sorbrudder::archive::Format;
 use std::path::{Path, PathBuf};
-
-pub const OPTIONS: &[args::Option] = &[
-    args::value("-o"),
-    args::value("--to"),
-    args::value("--limit"),
-    args::value("--own-limit"),
-    args::value("--report"),
-    args::flag("--in-place"),
-    args::flag("--backup"),
-    args::flag("--dry-run"),
-    args::flag("--strict"),
-    args::flag("--settle"),
-    args::flag("--plain"),
-    args::flag("--json"),
-];
 
 /// Where lifted lists go.
 #[derive(Clone, Debug, PartialEq, Eq)]
@@ -40,11 +26,15 @@ pub struct Options {
     pub limit: Limit,
     pub own_limit: Limit,
     pub target: Target,
-    pub format: Format,
+    /// How files are written; as each is where nothing is said.
+    pub format: Option<Format>,
     pub backs_up: bool,
     pub is_strict: bool,
     pub settles: bool,
     pub is_json: bool,
+    /// Whether each list that is written anew is shown as it was and as it is, and whether in colour.
+    pub shows: bool,
+    pub is_coloured: bool,
     /// The report's file.
     pub report: Option<PathBuf>,
 }
@@ -67,15 +57,13 @@ impl Options {
             limit: args.limit("--limit")?,
             own_limit: args.limit("--own-limit")?,
             target,
-            format: if args.has("--plain") {
-                Format::Words
-            } else {
-                Format::Container
-            },
+            format: format(args)?,
             backs_up: args.has("--backup"),
             is_strict: args.has("--strict"),
             settles: args.has("--settle"),
             is_json: args.has("--json") || to_stdout,
+            shows: args.has("--diff"),
+            is_coloured: is_coloured(),
             report,
         })
     }
@@ -88,6 +76,15 @@ impl Options {
             Target::File(target) => Some(target.clone()),
             Target::Folder(from, to) => Some(to.join(file.strip_prefix(from).unwrap_or(file))),
         }
+    }
+}
+
+fn format(args: &Args) -> Result<Option<Format>, Failure> {
+    match (args.has("--plain"), args.has("--container")) {
+        (true, true) => Err(args.wrong("`--plain` and `--container` exclude each other")),
+        (true, false) => Ok(Some(Format::Words)),
+        (false, true) => Ok(Some(Format::Container)),
+        (false, false) => Ok(None),
     }
 }
 

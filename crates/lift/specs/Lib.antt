@@ -1,0 +1,3 @@
+-- What the lift of a list over lent buffers promises, as definitions.
+pub mod Lifting
+pub mod Answers

@@ -1,0 +1,2 @@
+-- What reading tells, as definitions.
+pub mod Came
