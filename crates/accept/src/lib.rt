@@ -1,6 +1,8 @@
 // When the entry turns a call back: answers 1 to 11 of document 01's table and 17 and 18 of document 02's card 8, in the table's order;
 // the first failure wins. Leans on words (the check of a token) and ops (sets, brackets); specs/Accepting says which call a list and these
 // sizes stand for.
+#![tactic(auto)]
+
 ghost use Rattle.std.specs.Prelude.{◌≡◌, ◌*◌, ◌/◌, ◌≤◌, length};
 ghost use Rattle.molang.specs.Parse.{is_limit, refusal};
 ghost use Rattle.molang.specs.Words.{operator_field, words_refusal};
@@ -24,7 +26,7 @@ pub const MOST_SOURCE: u64 = 536_870_911;
 pub const MOST_LIMIT: u32 = 4096;
 
 // The lengths of the buffers that the call lends besides the list, and of the source.
-#[derive(Drop)]
+#[derive(Clone, Copy)]
 pub struct Sizes {
     pub tree: usize,
     pub messages: usize,
@@ -33,7 +35,7 @@ pub struct Sizes {
 }
 
 // A call that is read, with its number of tokens, or the refusal's number and place.
-#[derive(Drop)]
+#[derive(Clone, Copy)]
 pub enum Accepted {
     Tokens(usize),
     Refused(u32, usize),

@@ -8,7 +8,7 @@ use nodes::{children, slots};
 use words::fields;
 
 // Where emission goes after a node: the next node, 0 at the end, and the top of the siblings that wait.
-#[derive(Drop)]
+#[derive(Clone, Copy)]
 pub struct After {
     pub next: u32,
     pub top: usize,

@@ -1,6 +1,8 @@
 // What a caller of the entry has to bring along: the exact used set of a list of token words, the highest span end among them, and a
 // version. A word that the entry would turn back counts for neither of the first two. Leans on words and ops; specs/Derived says which
 // words count.
+#![tactic(auto)]
+
 ghost use Rattle.std.specs.Prelude.{◌≡◌, ◌||◌, ℕ, ◌≤◌, ◌<◌, ◌^◌, eqb};
 ghost use Rattle.molang.specs.Parse.{in_halves};
 ghost use Rattle.molang.specs.Words.{operator_field, end_field};

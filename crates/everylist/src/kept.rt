@@ -16,7 +16,7 @@ const MOST_WORDS: usize = 11;
 const MOST_NUMBER: u32 = 65_535;
 
 // A refusal's number, or that there is none.
-#[derive(Drop)]
+#[derive(Clone, Copy)]
 pub enum Fault {
     Refused(u32),
     Nothing,

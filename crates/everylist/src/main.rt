@@ -2,6 +2,8 @@
 // alphabet up to that length with what is read of it. `main` only reads and writes: what is kept of the bytes that came is what `answer`
 // asks for, which text stands at which position is the promise of `step_at`, and what is handed to `write` is what `hand` asks for. Leans
 // on io, streams (reading), listing and text (the front's words), and the modules below.
+#![tactic(auto)]
+
 mod kept;
 mod read;
 mod step;
@@ -22,7 +24,7 @@ use text::put_bytes;
 const FRONT: usize = 44;
 
 // The texts at so many positions were handed over, and there are no more; or a write failed.
-#[derive(Drop)]
+#[derive(Clone, Copy)]
 enum Printed {
     All(u64),
     Failed,

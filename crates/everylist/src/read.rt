@@ -11,7 +11,7 @@ const TURNS: usize = 1_099_511_627_776;
 
 // What came: how many bytes, whether each word of them is a number of sixteen bits, how many of the bytes came last, and why they were no
 // more.
-#[derive(Drop)]
+#[derive(Clone, Copy)]
 pub struct Rest {
     pub bytes: usize,
     pub fine: bool,

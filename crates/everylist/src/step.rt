@@ -18,7 +18,7 @@ use words::fields;
 use words::fields::wide;
 
 // The text that was laid has so many bytes, or the positions have ended.
-#[derive(Drop)]
+#[derive(Clone, Copy)]
 pub enum Step {
     Text(usize),
     Done,

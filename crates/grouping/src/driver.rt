@@ -17,7 +17,7 @@ use nodes::{children, frames, slots};
 use passes::{arrays, binary, calls, conditional, returns, statements, unary};
 
 // What one turn of the driver leads to; at the end of the pass, how many items the outermost list has.
-#[derive(Drop)]
+#[derive(Clone, Copy)]
 pub enum Next {
     On(Walk),
     Done(usize),
@@ -25,7 +25,7 @@ pub enum Next {
 }
 
 // What a pass ends with; if it went through, how many items the outermost list has.
-#[derive(Drop)]
+#[derive(Clone, Copy)]
 pub enum Ran {
     Done(usize),
     Fail(Failure),

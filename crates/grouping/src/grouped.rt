@@ -1,7 +1,7 @@
 // What the passes leave of a list (`group_tokens` in mod.rs), for the entry to lay out as a tree or to report. Leans on the failures.
 use levels::failure::{Failure, Mismatch, Unclosed};
 
-#[derive(Drop)]
+#[derive(Clone, Copy)]
 pub enum Grouped {
     // The roots stand as the children of slot 0.
     Roots,

@@ -11,7 +11,7 @@ use words::fields::MOST_TOKENS;
 use words::refusals;
 
 // No fault, or a refusal's number; its place is 0.
-#[derive(Drop)]
+#[derive(Clone, Copy)]
 pub enum Fault {
     None,
     Refused(u32),

@@ -1,6 +1,8 @@
 // An open list (document 02, card 11): a list that is held while it is edited, the version rising under it. Three numbers by value and the
 // words in a lent slice are held; an edit is asked, which changes nothing held, or committed. Leans on own (the reading), parse (its
 // answer) and words; specs/Held has the definition, specs/Answers the promises.
+#![tactic(auto)]
+
 mod copying;
 mod edits;
 mod faults;
@@ -24,7 +26,7 @@ pub const HELD_WORDS: usize = 20_480;
 pub const LAST_COUNT: u32 = 4_294_967_295;
 
 // The held numbers: how many tokens, the version, and the edit count.
-#[derive(Drop)]
+#[derive(Clone, Copy)]
 pub struct Held {
     pub tokens: usize,
     pub version: i16,
@@ -33,7 +35,7 @@ pub struct Held {
 
 // What an opening or a commit comes to: a tree of so many nodes or so many messages, with the held numbers after it, or a refusal's number
 // and place, which leaves all that is held as it was.
-#[derive(Drop)]
+#[derive(Clone, Copy)]
 pub enum Change {
     Tree(usize, Held),
     Messages(usize, Held),
@@ -41,7 +43,7 @@ pub enum Change {
 }
 
 // What a version change comes to.
-#[derive(Drop)]
+#[derive(Clone, Copy)]
 pub enum Adopted {
     Changed(Held),
     Refused(u32),

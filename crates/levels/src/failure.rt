@@ -2,7 +2,7 @@
 // Brackets that do not match give two messages: `Mismatch` and `Unclosed`. `parse/src/report.rt` makes the records of all three.
 // Leans on nothing.
 
-#[derive(Drop)]
+#[derive(Clone, Copy)]
 pub enum Failure {
     // Complex, and the token that the list ends with.
     ComplexMustEndWithSemicolon(u32),
@@ -27,7 +27,7 @@ pub enum Failure {
 
 // A closer that is not the innermost open section's: that section's opener and its index plus one, the closer and its index, and the
 // outermost opener, which is named as not closed.
-#[derive(Drop)]
+#[derive(Clone, Copy)]
 pub struct Mismatch {
     pub opener: u32,
     pub start: u32,
@@ -37,7 +37,7 @@ pub struct Mismatch {
 }
 
 // Sections that are open at the end: the innermost opener and its index plus one, and the outermost opener.
-#[derive(Drop)]
+#[derive(Clone, Copy)]
 pub struct Unclosed {
     pub inner: u32,
     pub start: u32,

@@ -10,7 +10,7 @@ use nodes::slots;
 use ops::classes::TokenClasses;
 
 // What `next_token` stops at: the end, a node with leaves of the pass below it, or a token of the pass.
-#[derive(Drop)]
+#[derive(Clone, Copy)]
 pub enum Found {
     Nothing(List),
     Children(List, u32),

@@ -8,7 +8,7 @@ use nodes::frames::{Held, List};
 use ops::classes::TokenClasses;
 
 // A pass, with what it holds of the list that it is on. Unary goes from the right, the others from the left.
-#[derive(Drop)]
+#[derive(Clone, Copy)]
 pub enum Pass {
     Calls,
     MathCalls,
@@ -29,14 +29,14 @@ pub enum Pass {
 }
 
 // Where a pass is: the list, and what it holds of it.
-#[derive(Drop)]
+#[derive(Clone, Copy)]
 pub struct Walk {
     pub list: List,
     pub pass: Pass,
 }
 
 // What a level makes of its list up to the next token or node that it works on.
-#[derive(Drop)]
+#[derive(Clone, Copy)]
 pub enum Turn {
     On(Walk),
     // The children of this item come first.
@@ -47,7 +47,7 @@ pub enum Turn {
 }
 
 // What a level makes of a list whose items are all done: where the finished items stand, and how many.
-#[derive(Drop)]
+#[derive(Clone, Copy)]
 pub enum Finished {
     At(usize, usize),
     Fail(Failure),

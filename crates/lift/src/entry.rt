@@ -16,7 +16,7 @@ use words::{fields, refusals};
 pub const OUTPUT_WORDS: usize = fields::TOKEN_WORDS * fields::MOST_TOKENS;
 
 // What becomes of a list, or why the call is turned back.
-#[derive(Drop)]
+#[derive(Clone, Copy)]
 pub enum Lot {
     // It stays word for word; its tree has so many nodes at both engines.
     Same(usize),

@@ -1,5 +1,7 @@
 // The lift of a list from one engine to another over lent buffers: it is read at both, and written if they read it otherwise. Leans on
 // accept (lengths, the nesting of what is written), own (the readings), write, parse and words; specs/Lifting has the definition.
+#![tactic(auto)]
+
 pub mod entry;
 
 ghost use Rattle.std.specs.Prelude.{◌≡◌, ◌*◌, ◌≤◌, min, length, take};
@@ -18,7 +20,7 @@ use words::fields;
 use write::{Written, write};
 
 // What becomes of a list.
-#[derive(Drop)]
+#[derive(Clone, Copy)]
 pub enum Outcome {
     // It stays word for word; its tree has so many nodes at both engines.
     Same(usize),

@@ -7,7 +7,7 @@ use crate::judge::{Verdict, judge};
 use crate::run::Counts;
 
 // How a list ends, and the input: a refusal's number and place, or the counts.
-#[derive(Drop)]
+#[derive(Clone, Copy)]
 pub enum Ending {
     Refused(u32, usize),
     Counted(Counts),

@@ -15,7 +15,7 @@ use words::{fields, refusals};
 const MOST_WORDS: usize = 640;
 
 // What a list comes to: a refusal's number and place, the same tree, different trees, messages at one version only, messages at both.
-#[derive(Drop)]
+#[derive(Clone, Copy)]
 pub enum Verdict {
     Refused(u32, usize),
     Same,

@@ -2,6 +2,8 @@
 // other would do. `main` only reads and writes: what chunks of an input come to is the promise of `feed`, what is printed at its end that
 // of `finish`, and that this is `printed` of the whole input, which `hand` asks for, is the theorem `came-prints`. Leans on io, streams
 // (reading), feed and finish.
+#![tactic(auto)]
+
 mod close;
 mod feed;
 mod finish;
@@ -42,7 +44,7 @@ fn start() -> Run
 }
 
 // What an input has come to: the run, how many bytes came last, and why they were no more.
-#[derive(Drop)]
+#[derive(Clone, Copy)]
 struct Reading {
     run: Run,
     last: usize,

@@ -3,7 +3,7 @@
 
 // How far the input has come: which word is next, the versions that it has given, and how many words the open list has. After a refusal,
 // its number and place.
-#[derive(Drop)]
+#[derive(Clone, Copy)]
 pub enum Stage {
     First,
     Second(i16),
@@ -13,7 +13,7 @@ pub enum Stage {
 }
 
 // The counts so far: lists read, same tree, different trees, message at one version only, message at both.
-#[derive(Drop)]
+#[derive(Clone, Copy)]
 pub struct Counts {
     pub read: u64,
     pub same: u64,
@@ -23,7 +23,7 @@ pub struct Counts {
 }
 
 // The run: how many bytes of a word have come, these bytes in the upper bits of a word, and what whole words came to.
-#[derive(Drop)]
+#[derive(Clone, Copy)]
 pub struct Run {
     pub held: u32,
     pub partial: u32,

@@ -12,14 +12,14 @@ use listing::bytes::word_of;
 const ENOUGH: usize = 65_536;
 
 // Where the file goes on: the stage, and the index behind what is laid; or a write failed.
-#[derive(Drop)]
+#[derive(Clone, Copy)]
 pub enum Fed {
     On(Stage, usize),
     Failed,
 }
 
 // So many bytes are laid now; or a write failed.
-#[derive(Drop)]
+#[derive(Clone, Copy)]
 enum Room {
     At(usize),
     Failed,

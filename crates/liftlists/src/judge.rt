@@ -13,7 +13,7 @@ use words::fields;
 const LIMIT: u32 = 4096;
 
 // The list stays word for word under the new version; so many tokens come out under it; or the list stays behind, under its own.
-#[derive(Drop)]
+#[derive(Clone, Copy)]
 pub enum Fate {
     Same,
     Lifted(usize),

@@ -1,6 +1,8 @@
 // The program `liftlists`: reads a version and a plain file of words (docs/FORMAT.md), and writes the file with every list lifted to that
 // version that can be. `main` only reads and writes: what is handed over is what `hand` and `hand_last` ask for. Leans on io, streams
 // (reading), listing (the word of four bytes), text, and the modules below.
+#![tactic(auto)]
+
 mod close;
 mod feed;
 mod hand;
@@ -53,7 +55,7 @@ fn finish(
 }
 
 // What a chunk led to: where the file goes on, how many bytes are whole words, how many came, and why they were no more.
-#[derive(Drop)]
+#[derive(Clone, Copy)]
 struct Turn {
     fed: Fed,
     whole: usize,

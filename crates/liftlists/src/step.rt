@@ -17,14 +17,14 @@ const MOST_WORDS: usize = 20_480;
 
 // What the words so far leave open: nothing, so that words go through as they come; or a list, by its opener and how many words it has,
 // which lie in front of a buffer.
-#[derive(Drop)]
+#[derive(Clone, Copy)]
 pub enum Stage {
     Passing,
     InList(u32, usize),
 }
 
 // The stage after a word, and the index behind what was laid.
-#[derive(Drop)]
+#[derive(Clone, Copy)]
 pub struct Step {
     pub stage: Stage,
     pub at: usize,

@@ -3,6 +3,8 @@
 // line as it says, and the entries answer as the definition does. So this program tests the compiled code. What it writes is compared with
 // the file stdout; of its functions, which are all private, it is proved that they are safe. After a write that failed it writes no more.
 // Leans on table (the lines and their text), verdicts (whether a line is answered as it says) and molang (the marks).
+#![tactic(auto)]
+
 ghost use Rattle.std.specs.Prelude.{◌≤◌, length};
 
 use libc::{STDERR_FILENO, STDOUT_FILENO};

@@ -127,6 +127,8 @@ written-ends p n k (node x xs (node y ys (node z zs more))) h c below r l = absu
 statements-end : (cs : Forest) → PlainStatements cs → Every Closes cs → AtEnds (written_statements cs [])
 unfolding written_statements bare
 statements-end nil ended c = tt
+statements-end (node s nil rest) x4 c = elim x4 [ ]
+statements-end (node s (node x xs (node _ _ _)) rest) x11 c = elim x11 [ ]
 statements-end (node s (node x xs nil) rest) (statement _ n _ h e later) (at c (at cx cxs nowhere) after) =
     written-ends _ n x xs e cx cxs _ (refl, statements-end rest later after)
 

@@ -390,6 +390,8 @@ statements-hosts : (cs : Forest) → PlainStatements cs → (r : List Token)
     → host_tokens (written_statements cs r) ≡ host_nodes cs (host_tokens r)
 unfolding written_statements host_tokens host_nodes bare is_named
 statements-hosts nil finished r = refl
+statements-hosts (node s nil rest) x3 r = elim x3 [ ]
+statements-hosts (node s (node x xs (node _ _ _)) rest) x10 r = elim x10 [ ]
 statements-hosts (node s (node x xs nil) rest) (statement _ n _ h e others) r =
     expression-hosts under_semicolon n x xs e (bare Operator.semicolon x ∷ written_statements rest r)
     ∙ ap (host_nodes (node x xs nil))

@@ -43,11 +43,11 @@ unfolding sections closed position flat turned_onto in_order
 sections-free i d nil t h = refl
 sections-free i d (node k nil rest) t h =
     let e = free-leaf (operators_of sectioning) k rest h in
-    rw (unopened d k nil (position i (outside d)) (no-opener k.op e.0), sections) (sections-free _ (node k nil d) rest t e.1)
+    rw (unopened d k nil (position i (outside d)) (no-opener k.op e.0), sections) (sections-free (position i (outside d)) (node k nil d) rest t e.1)
 sections-free i d (node k (node c cs r) rest) t h =
     let b = both (eqb k.op Operator.member_accessor) (flat rest) t in
     rw (unopened d k (node c cs r) (position i (outside d)) (member-unopened k b.0), sections)
-    (sections-free _ (node k (node c cs r) d) rest b.1 (free-tree (operators_of sectioning) k c cs r rest h).1)
+    (sections-free (position i (outside d)) (node k (node c cs r) d) rest b.1 (free-tree (operators_of sectioning) k c cs r rest h).1)
 
 -- THE THEOREM: a pass leaves a list that it works on as it is where none of its operators stands as a leaf, at any depth.
 pub no-masks : (source_length : ℕ) (p : Pass) (f : Forest) → works_on p f ≡ true → free (operators_of p) f ≡ true

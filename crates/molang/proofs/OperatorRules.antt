@@ -212,10 +212,10 @@ module _ (first : Bool) where
 
     -- The leaves of operators with the pass's number.
     grown-with : (T : ℕ → Bool) → ((o : ℕ) → T o ≡ true → operator_rule first o ≡ rule_of p) → Grows (Given (rule_of p) (bound_after m p)) T
-    grown-with = grown (rule_of p) (bound_after m p) (omega (arith, leb-true 1 (rule_of p) all_have.0)) (omega arith)
+    grown-with = grown (rule_of p) (bound_after m p) (omega (arith, leb-true 1 (rule_of p) all_have_lem.0)) (omega arith)
 
     grown-among : Grows (Given (rule_of p) (bound_after m p)) (is_one_of os)
-    grown-among = grown-with (is_one_of os) (one_has (rule_of p) os all_have.1)
+    grown-among = grown-with (is_one_of os) (one_has (rule_of p) os all_have_lem.1)
 
     -- A token without a number.
     fresh : (k : Token) → k.value ≡ 0 → is_one_of os k.op ≡ true → Given (rule_of p) (bound_after m p) k false

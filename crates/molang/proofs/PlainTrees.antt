@@ -195,6 +195,8 @@ statements-plain : (k : Token) → eqb k.op Operator.semicolon ≡ true → (i n
     → (all_semicolons cs ≡ true) × (unplain (some k) i n cs ≡ none)
 unfolding all_semicolons semicolon_form seat_of
 statements-plain k h i n nil ended = (refl, no-trees (some k) i n)
+statements-plain k h i n (node s nil rest) x3 = elim x3 [ ]
+statements-plain k h i n (node s (node x xs (node _ _ _)) rest) x10 = elim x10 [ ]
 statements-plain k h i n (node s (node x xs nil) rest) (statement _ m _ e held later) =
     let semi : eqb s.op Operator.semicolon ≡ true = eq-eqb s.op Operator.semicolon e in
     let after = statements-plain k h (suc i) (suc n + size (node x xs nil)) rest later in

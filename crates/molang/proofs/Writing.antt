@@ -198,6 +198,8 @@ pub data StatementsOnce : Forest → List Token → Type 0 where
 statements-once : (cs : Forest) → PlainStatements cs → StatementsOnce cs (written_statements cs [])
 unfolding written_statements
 statements-once nil ended = no_statement
+statements-once (node s nil rest) x3 = elim x3 [ ]
+statements-once (node s (node x xs (node _ _ _)) rest) x10 = elim x10 [ ]
 statements-once (node s (node x xs nil) rest) (statement _ n _ h e later) =
     rw (written-before x xs (bare Operator.semicolon x ∷ written_statements rest []))
     (statement_once s x (expression-once under_semicolon n x xs e) (statements-once rest later))

@@ -7,7 +7,7 @@ use words::fields::wide;
 
 // A list under work: the len slots from base on, the children of `owner`. From the left, items that are done stand in
 // [0, write) and unread ones in [read, len); from the right, unread ones in [0, read) and items that are done in [write, len).
-#[derive(Drop)]
+#[derive(Clone, Copy)]
 pub struct List {
     pub owner: u32,
     pub base: usize,
@@ -17,7 +17,7 @@ pub struct List {
 }
 
 // What a pass holds of a list, as two words.
-#[derive(Drop)]
+#[derive(Clone, Copy)]
 pub struct Held {
     pub first: u32,
     pub second: u32,
@@ -31,7 +31,7 @@ impl Held {
 }
 
 // A list as it was left, with what the pass held of it.
-#[derive(Drop)]
+#[derive(Clone, Copy)]
 pub struct Frame {
     pub list: List,
     pub held: Held,

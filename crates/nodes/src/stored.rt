@@ -14,7 +14,7 @@ pub const VALUE_FIELD: usize = 3;
 pub const CLOSE_WORD: usize = 4;
 
 // A token's words in the store.
-#[derive(Drop)]
+#[derive(Clone, Copy)]
 pub struct StoredWords {
     pub operator: u32,
     pub start: u32,

@@ -9,7 +9,7 @@ use crate::op;
 // A set of token classes: each constant from CALL to ONLY_CONDITIONAL_ELSE is one class, each after it several. NONE and ALL are the
 // Rust's, which notes ALL where no pass has looked yet. Here each leaf notes its own classes from the start, so no pass uses ALL;
 // `class_constants` holds it, as every other constant, to what it stands for.
-#[derive(Drop)]
+#[derive(Clone, Copy)]
 pub struct TokenClasses(pub u32);
 
 impl TokenClasses {

@@ -1,6 +1,8 @@
 // What is known of an operator by its number: its name, its classes, its closer, how many brackets are open after it, what it makes of a
 // minus after it; sets of operators, and the version that the rules use. Leans on nothing; follows op.rs, set.rs, version/mod.rs and the
 // helpers of the parse modules.
+#![tactic(auto)]
+
 pub mod classes;
 pub mod op;
 pub mod sets;
@@ -107,7 +109,7 @@ pub fn holds_statements(op: u32) -> bool
 }
 
 // What the token before a `-` makes of it.
-#[derive(Drop)]
+#[derive(Clone, Copy)]
 pub enum BeforeMinus {
     // An operand: the `-` is binary.
     Operand,

@@ -5,7 +5,7 @@ ghost use Rattle.molang.specs.Operator.{any};
 ghost use Rattle.molang.specs.Order.{some_below};
 ghost use Rattle.molang.specs.Parse.{in_halves};
 
-#[derive(Drop)]
+#[derive(Clone, Copy)]
 pub struct OpSet {
     pub low: u64,
     pub high: u64,

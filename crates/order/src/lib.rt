@@ -1,6 +1,8 @@
 // Which passes run after the sections, and in which order, under a used set and a version (mod.rs): a table of ranks for each of the
 // three rules, and whether the pass of a rank runs. Leans on levels (the passes' states) and ops (sets, classes, versions); specs/Ranks
 // says when a table is the definition's order.
+#![tactic(auto)]
+
 ghost use Rattle.std.specs.Prelude.{List};
 ghost use Rattle.molang.specs.Order as definition;
 ghost use Rattle.order.specs.Ranks.{used_by, rules_at, later, Ranked, AtRank, Chosen};
@@ -12,7 +14,7 @@ use ops::sets::OpSet;
 use ops::version::{is_from_5, is_from_6};
 
 // A pass, or none if its operators are not used.
-#[derive(Drop)]
+#[derive(Clone, Copy)]
 pub enum Choice {
     Run(Pass),
     Skip,
@@ -24,7 +26,7 @@ pub const RANKS: u32 = 23;
 pub const POINTER: u32 = 3;
 
 // A pass as it starts, and the operators of which one has to be used, in two halves.
-#[derive(Drop)]
+#[derive(Clone, Copy)]
 pub struct Rank {
     pub pass: Pass,
     pub low: u64,

@@ -1,5 +1,7 @@
 // Reads a list at its own used set, at a source length that is given or at its highest span end. Leans on derived (the set and the end),
 // accept (the highest nesting limit) and parse; specs/Own has the definitions. Two readings beside each other are `beside`.
+#![tactic(auto)]
+
 pub mod beside;
 
 ghost use Rattle.std.specs.Prelude.{◌≡◌};

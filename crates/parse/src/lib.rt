@@ -1,5 +1,7 @@
 // The parse entry: a list of token words becomes a tree, messages or a refusal. Checks, reading in the work buffer, and
 // filling of the caller's buffers are functions of their own. Leans on accept, grouping, levels, buffers, nodes, ops and words.
+#![tactic(auto)]
+
 mod report;
 
 ghost use Rattle.grouping.specs.declared.grouped.Grouped.TheVariants.{Roots};
@@ -18,7 +20,7 @@ use ops::version::effective;
 use scan::walk::{Walked, walk};
 
 // What a call is answered: a tree of so many nodes, so many messages, or a refusal's number and place.
-#[derive(Drop)]
+#[derive(Clone, Copy)]
 pub enum Answer {
     Tree(usize),
     Messages(usize),

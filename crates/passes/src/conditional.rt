@@ -14,7 +14,7 @@ use ops::classes::TokenClasses;
 use ops::op;
 
 // Where the scan is.
-#[derive(Drop)]
+#[derive(Clone, Copy)]
 pub struct Scan {
     pub left: usize,
     pub right: usize,

@@ -1,5 +1,7 @@
 // The levels of the passes over the node store, side by side with the Rust's parse modules: each turns one list, as levels says, and the
 // driver of crate grouping (`driver`) runs them. Leans on levels (turns, items), nodes (slots, chains), ops (operators, classes) and words.
+#![tactic(auto)]
+
 pub mod arrays;
 pub mod binary;
 pub mod calls;

@@ -1,5 +1,7 @@
 // Demand 3 as a function: reads a list, writes the tree it gives, and reads exactly the tokens written again, at any version and with
 // their own operators. Leans on parse, write, own and words; the definition is `Reread` of molang's specs.
+#![tactic(auto)]
+
 ghost use Rattle.std.specs.Prelude.{◌≡◌};
 ghost use Rattle.molang.specs.Parse.{a_tree};
 ghost use Rattle.molang.specs.Reread.{second_told, after_first};
@@ -13,7 +15,7 @@ use words::fields;
 use write::{Written, write};
 
 // What the three calls come to.
-#[derive(Drop)]
+#[derive(Clone, Copy)]
 pub enum Outcome {
     // Both readings gave a tree: the nodes of the first, the tokens written, the nodes of the second.
     Trees(usize, usize, usize),

@@ -1,6 +1,8 @@
 // The parse entry with a rule buffer (document 02, card 5): one byte a node says which rule first gave it children. The list is read as
 // without the buffer, and where a tree comes its words say the bytes. Leans on parse (the entry), accept (answers 1 to 5), ops (the
 // version) and words; specs/Answers has the promise.
+#![tactic(auto)]
+
 mod rule;
 
 ghost use Rattle.std.specs.Prelude.{◌≡◌, ◌/◌, ◌≤◌, length};

@@ -1,5 +1,7 @@
 // One walk over a list's tokens from the last to the first, which reads expressions and gives up on everything else: `walk` is the crate's
 // entry. Leans on ops and words.
+#![tactic(auto)]
+
 mod emit;
 mod look;
 mod scan;

@@ -13,7 +13,7 @@ use ops::op;
 use ops::sets::OpSet;
 
 // The records begin at a word of the work buffer, or the walk gives up.
-#[derive(Drop)]
+#[derive(Clone, Copy)]
 pub enum Scanned {
     Records(usize),
     GivesUp,

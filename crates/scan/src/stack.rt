@@ -6,7 +6,7 @@ ghost use Rattle.std.specs.Prelude.{◌≡◌, ◌≤◌, ◌<◌};
 
 // How far the walk is: the place of the last token that was read; how many words the stack has, and the last of them; where the records
 // begin.
-#[derive(Drop)]
+#[derive(Clone, Copy)]
 pub struct State {
     pub left: usize,
     pub depth: usize,

@@ -32,7 +32,7 @@ pub const AFTER_PLUS: u32 = 0x8000_0000;
 pub const WHOLE: u32 = 7;
 
 // An operand is wanted; one has been read; the list is read, and its records begin there; the walk gives up.
-#[derive(Drop)]
+#[derive(Clone, Copy)]
 pub enum Turn {
     Want(State),
     Have(State),

@@ -9,7 +9,7 @@ use crate::scan::{Scanned, scan};
 use ops::sets::OpSet;
 
 // A tree of so many nodes, whose words fill the front of the tree buffer; or nothing, and another way of reading has to be taken.
-#[derive(Drop)]
+#[derive(Clone, Copy)]
 pub enum Walked {
     Tree(usize),
     GivesUp,

@@ -1,5 +1,7 @@
 // The bracket structure: member accessors and sections, over the array of slots that is the flat list (sections.rs).
 // Both read the array and write it again from its start, write ≤ read. Leans on levels (failures), nodes (slots, chains), ops and words.
+#![tactic(auto)]
+
 ghost use Rattle.std.specs.Prelude.{◌≡◌, ◌≢◌, ◌+◌, ◌*◌, ◌-◌, ◌^◌, ◌≤◌, ◌<◌, length};
 ghost use Rattle.molang.specs.Nesting.{open_after};
 ghost use Rattle.nodes.specs.Store.{wd};
@@ -14,7 +16,7 @@ use ops::{closer_of, is_closer, is_opener, op, takes_member};
 use words::fields::wide;
 
 // What a flat pass leaves: how many items, or why it fails.
-#[derive(Drop)]
+#[derive(Clone, Copy)]
 pub enum Flat {
     Done(usize),
     Fail(Failure),
@@ -63,7 +65,7 @@ pub fn members(work: &mut [u32], base: usize, n: usize) -> Flat
 // How far the section walk is: how many items are written, how many sections are open, and the index of the last token as
 // messages count it (a closed section outside any other counts one, all else stands flat). Each open section has two words
 // from `marks` on: where its opener is written, and the opener's index plus one.
-#[derive(Drop)]
+#[derive(Clone, Copy)]
 pub struct Reached {
     pub write: usize,
     pub depth: usize,
@@ -71,7 +73,7 @@ pub struct Reached {
 }
 
 // What the walk makes of one token: it goes on, or a closer does not match. Both say how many brackets are open after the token.
-#[derive(Drop)]
+#[derive(Clone, Copy)]
 pub enum Bracket {
     On(Reached),
     Differs(Mismatch, usize),

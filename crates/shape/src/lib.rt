@@ -1,6 +1,8 @@
 // Answer 12: the words are exactly one tree of at most 12,288 nodes, or the first word that cannot continue one is found. Node by
 // node for as long as each node continues the tree, then word by word, which finds the place; with the nodes that the words so far
 // call for and those that have begun. Leans on words (the check of each word).
+#![tactic(auto)]
+
 ghost use Rattle.std.specs.Prelude.{◌≡◌, true, ℕ, ◌+◌, ◌≤◌, length};
 ghost use Rattle.molang.specs.Words as words;
 ghost use Rattle.molang.specs.WriteEntry as entry;
@@ -16,7 +18,7 @@ use words::{checks, fields};
 pub const MOST_NODES: u32 = 12_288;
 
 // Which word of a node is expected next.
-#[derive(Drop)]
+#[derive(Clone, Copy)]
 pub enum Field {
     Operator,
     Start,
@@ -28,14 +30,14 @@ pub enum Field {
 }
 
 // The whole nodes before `at`: how many nodes they call for, and how many have begun.
-#[derive(Drop)]
+#[derive(Clone, Copy)]
 struct Nodes {
     called: u32,
     begun: u32,
     at: usize,
 }
 
-#[derive(Drop)]
+#[derive(Clone, Copy)]
 pub enum Fault {
     // The words are one tree.
     Nowhere,

@@ -15,7 +15,7 @@ use words::fields;
 use words::tokens::TokenWords;
 
 // Where a list stands: among those of its length, of which there are `size`, behind `left` of them.
-#[derive(Drop)]
+#[derive(Clone, Copy)]
 struct Standing {
     length: usize,
     size: u64,
@@ -39,7 +39,7 @@ fn find_length(letters: u64, position: u64) -> Standing
 }
 
 // A number of several digits: the first, and the number that the others are.
-#[derive(Drop)]
+#[derive(Clone, Copy)]
 struct Split {
     first: u64,
     rest: u64,

@@ -1,5 +1,7 @@
 // Every short list of an alphabet of operator numbers (document 02, card 9): how many there are up to a length, and the list at a position.
 // The list is given back by value, so that nothing lent is left free. Leans on words; specs/ShortLists has the definition.
+#![tactic(auto)]
+
 mod alphabet;
 mod digits;
 
@@ -16,21 +18,21 @@ use words::refusals;
 const LONGEST: u64 = 6;
 
 // So many lists, or a refusal's number.
-#[derive(Drop)]
+#[derive(Clone, Copy)]
 pub enum Counted {
     Lists(u64),
     Refused(u32),
 }
 
 // A list of so many tokens, or a refusal's number.
-#[derive(Drop)]
+#[derive(Clone, Copy)]
 pub enum Listed {
     Tokens(usize),
     Refused(u32),
 }
 
 // What is told of a list, and its words, in front of thirty.
-#[derive(Drop)]
+#[derive(Clone, Copy)]
 pub struct Short {
     pub listed: Listed,
     pub words: [u32; 30],

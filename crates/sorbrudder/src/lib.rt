@@ -1,5 +1,7 @@
 // The exports of the library, by the C convention: slices as pointer and length, numbers as themselves, an answer as one number
 // (specs/Numbers; include/sorbrudder.h takes it apart). Leans on parse, rules, held, write and stackorder.
+#![tactic(auto)]
+
 mod holding;
 mod lifting;
 mod ruled;

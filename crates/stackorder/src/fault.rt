@@ -13,7 +13,7 @@ use shape::{Fault, Field, MOST_NODES, begun_after, is_legal, is_node, next, vari
 use words::fields;
 
 // The whole nodes before `at`: how many trees they have done, and how many nodes have begun.
-#[derive(Drop)]
+#[derive(Clone, Copy)]
 struct Nodes {
     done: u32,
     begun: u32,

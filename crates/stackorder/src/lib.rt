@@ -1,5 +1,7 @@
 // Stack order: a tree's words with each node's seven after those of its children. Export gives that order, import takes it; each judges
 // the words first, then the output's length, so a call that is turned back leaves the output as it was. Leans on shape and words.
+#![tactic(auto)]
+
 mod fault;
 mod refusal;
 mod reorder;
@@ -18,7 +20,7 @@ use shape::first_fault;
 use words::{fields, refusals};
 
 // What a call is answered: the number of nodes that were put into the other order, or a refusal's number and place.
-#[derive(Drop)]
+#[derive(Clone, Copy)]
 pub enum Reordered {
     Nodes(usize),
     Refused(u32, usize),

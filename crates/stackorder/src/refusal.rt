@@ -10,7 +10,7 @@ use shape::Fault;
 use words::refusals;
 
 // No refusal, or one's number and place.
-#[derive(Drop)]
+#[derive(Clone, Copy)]
 pub enum Refusal {
     None,
     Told(u32, usize),

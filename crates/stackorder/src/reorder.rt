@@ -11,7 +11,7 @@ use words::fields;
 use words::tokens::TokenWords;
 
 // Forward makes stack order of preorder, from the left; backward makes preorder of stack order, from the right.
-#[derive(Drop)]
+#[derive(Clone, Copy)]
 pub enum Direction {
     Forward,
     Backward,
@@ -19,7 +19,7 @@ pub enum Direction {
 
 // How far the walk is: the ends of the next node to be read, of the next to be written and of the next words in which an open node can
 // wait; the innermost open node, and how many of its children are left to be read.
-#[derive(Drop)]
+#[derive(Clone, Copy)]
 struct Cursor {
     read: usize,
     written: usize,

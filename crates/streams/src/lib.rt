@@ -1,5 +1,7 @@
 // Standard input with its failures told. `io` takes a failed read for the end of the input; here the two are apart. Leans on libc (a read,
 // which answers -1 if it fails) and io (how many bytes that is); specs/Came has the definitions.
+#![tactic(auto)]
+
 ghost use Rattle.std.specs.Prelude.{◌≡◌, length};
 ghost use Rattle.io.specs.Counts.{IsPrefixLen};
 ghost use Rattle.streams.specs.Came.{FullBy};
@@ -7,7 +9,7 @@ ghost use Rattle.streams.specs.Came.{FullBy};
 use libc::STDIN_FILENO;
 
 // Why reading stopped: the buffer is full, the input has ended, or a read failed.
-#[derive(Drop)]
+#[derive(Clone, Copy)]
 pub enum End {
     Full,
     Ended,
@@ -15,7 +17,7 @@ pub enum End {
 }
 
 // What came: so many bytes in front of the buffer, and why they are no more.
-#[derive(Drop)]
+#[derive(Clone, Copy)]
 pub struct Came {
     pub bytes: usize,
     pub end: End,

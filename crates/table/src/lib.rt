@@ -1,6 +1,8 @@
 // The table of molang's lines for a program that runs it: the words that a line asks with, laid into a buffer, and whether a buffer holds
 // those that it answers with; and the text of each line (the module `said`). A mark and its items are one slice, the mark first. Leans on
 // molang (the table), words and text; specs/Marked says which words they are.
+#![tactic(auto)]
+
 pub mod answers;
 pub mod asked;
 pub mod said;

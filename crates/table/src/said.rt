@@ -142,7 +142,7 @@ writing 255\x20
 ";
 
 // The table's numbers and the text of its lines.
-#[derive(Drop)]
+#[derive(Clone, Copy)]
 pub struct Lines {
     pub numbers: [u32; COUNT],
     pub text: [u8; BYTES],

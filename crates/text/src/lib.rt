@@ -1,5 +1,7 @@
 // Text laid into a lent buffer of bytes, a part behind the other: bytes as they are, and numbers in decimal. All bytes but those of the
 // text stay as they were. Leans on io (digits) and on words (what it is to be laid); specs/Text has the definitions.
+#![tactic(auto)]
+
 ghost use Rattle.std.specs.Prelude.{◌+◌, ◌≤◌, length};
 ghost use Rattle.text.specs.Text.{Wrote, decimal, numbered};
 

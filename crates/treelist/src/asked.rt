@@ -14,7 +14,7 @@ use words::refusals;
 const MOST_WORDS: usize = 640;
 
 // A list of so many words, or a refusal's number.
-#[derive(Drop)]
+#[derive(Clone, Copy)]
 pub enum Request {
     List(usize),
     Refused(u32),

@@ -2,6 +2,8 @@
 // the refusal. `main` only reads and writes: what came of the input is what `answer_input` asks for, which text answers which bytes is the
 // promise of the function `listing`, and what is handed to `write` is what `hand` asks for. Leans on io, streams (reading), own (the
 // reading of a list), listing and text (the words of bytes, the text) and derived.
+#![tactic(auto)]
+
 mod asked;
 
 ghost use Rattle.std.specs.Prelude.{◌≡◌, ◌+◌, ◌^◌, ◌≤◌, ◌<◌, length};
@@ -38,7 +40,7 @@ fn listing(front: &[u8], bytes: usize, out: &mut [u8]) -> usize
 }
 
 // What came of the input behind its front: how many bytes, how many of them came last, and why they were no more.
-#[derive(Drop)]
+#[derive(Clone, Copy)]
 struct Rest {
     bytes: usize,
     last: usize,

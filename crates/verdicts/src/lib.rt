@@ -1,6 +1,8 @@
 // Whether a line is answered as it says. `run_line` makes the calls that it asks for, with fresh buffers just as long as the entries ask,
 // and compares what they tell and leave with the line. Leans on table (what a line asks and says), own (reading), write and derived;
 // specs/Verdicts says of a line whether the definition answers it so.
+#![tactic(auto)]
+
 ghost use Rattle.std.specs.Prelude.{◌≡◌, ◌≤◌, length, replicate};
 ghost use Rattle.parse.specs.Answers.{told_of};
 ghost use Rattle.write.specs.Answers.{told_of as written_told, call as write_call};
@@ -27,7 +29,7 @@ const TREE_WORDS: usize = 86_037;
 const WORK_WORDS: usize = 262_272;
 
 // Whether a call is answered as its line says, or what is first found to differ.
-#[derive(Drop)]
+#[derive(Clone, Copy)]
 pub enum Verdict {
     Same,
     Answer,

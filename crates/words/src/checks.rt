@@ -11,7 +11,7 @@ use crate::tokens::TokenWords;
 use crate::{fields, refusals};
 
 // What is wrong with a word.
-#[derive(Drop)]
+#[derive(Clone, Copy)]
 pub enum Word {
     Good,
     WrongKind,
@@ -21,7 +21,7 @@ pub enum Word {
 }
 
 // The check of a token: good, or the answer's number and the place in the list of its first bad word.
-#[derive(Drop)]
+#[derive(Clone, Copy)]
 pub enum Checked {
     Good,
     Bad(u32, usize),

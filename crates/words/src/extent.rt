@@ -6,7 +6,7 @@ ghost use Rattle.words.specs.Extents.{wider, first_extent};
 
 use crate::fields;
 
-#[derive(Drop)]
+#[derive(Clone, Copy)]
 pub struct Extent {
     pub start: u32,
     pub end: u32,

@@ -38,7 +38,7 @@ pub const UNARY_WITHOUT_OPERAND: u32 = 16;
 pub const TERNARY_WITHOUT_OPERANDS: u32 = 17;
 
 // A record's words.
-#[derive(Drop)]
+#[derive(Clone, Copy)]
 pub struct Record {
     pub number: u32,
     pub start: u32,

@@ -7,7 +7,7 @@ ghost use Rattle.words.specs.Tokens.{token_words_at, bare_words, five_words, nod
 use crate::fields;
 
 // A token's words.
-#[derive(Drop)]
+#[derive(Clone, Copy)]
 pub struct TokenWords {
     pub operator: u32,
     pub start: u32,

@@ -1,6 +1,8 @@
 // The write entry: the words of a plain tree become the words of a token list. What turns a call back is found first, from the
 // table's top and without recursion, so a tree that cannot be written leaves the list as it was and takes little of the call stack.
 // Leans on shape, words and ops.
+#![tactic(auto)]
+
 mod plain;
 mod reader;
 mod spell;
@@ -19,7 +21,7 @@ use shape::{Fault, first_fault};
 use words::{fields, refusals};
 
 // What a call is answered: the number of tokens that were written, or a refusal's number and place.
-#[derive(Drop)]
+#[derive(Clone, Copy)]
 pub enum Written {
     Tokens(usize),
     Refused(u32, usize),

@@ -17,7 +17,7 @@ use ops::{is_math_call, op};
 use words::fields;
 
 // The seat of a node under its parent, as far as its form and its pair of brackets depend on it.
-#[derive(Drop)]
+#[derive(Clone, Copy)]
 pub enum Seat {
     // The root of an expression, or a bracket's child.
     Enclosed,
@@ -34,7 +34,7 @@ pub enum Seat {
 }
 
 // What a tree is found to be.
-#[derive(Drop)]
+#[derive(Clone, Copy)]
 pub enum Judged {
     // Every node is plain, and so many tokens are written.
     Plain(usize),

@@ -8,7 +8,7 @@ ghost use Rattle.words.specs.Tokens.{node_length};
 
 use words::fields;
 
-#[derive(Drop)]
+#[derive(Clone, Copy)]
 pub struct TreeReader<'a> {
     words: &'a [u32],
     at: usize,
@@ -16,7 +16,7 @@ pub struct TreeReader<'a> {
 
 // A node that was passed, its operator, its children and the next node's operator, 0 after the last; and the reader behind it, its words
 // and where the next node stands. (A struct that holds a reader is no form that was tried.)
-#[derive(Drop)]
+#[derive(Clone, Copy)]
 pub struct Passed<'a> {
     words: &'a [u32],
     at: usize,
@@ -26,7 +26,7 @@ pub struct Passed<'a> {
 }
 
 // The same without the words: what is seen of a node, and where the next node stands.
-#[derive(Drop)]
+#[derive(Clone, Copy)]
 pub struct NodeView {
     pub op: u32,
     pub children: u32,

@@ -194,7 +194,7 @@ fn front_at(words: &[u32], at: usize) -> usize
 }
 
 // Where the first children end: the leaf's place in the words, and how many words of the list stand before those of the leaf.
-#[derive(Drop)]
+#[derive(Clone, Copy)]
 pub struct Descent {
     node: usize,
     front: usize,

@@ -59,8 +59,8 @@ returns-4 c =
     let words = sym (ap verdict_of c.before.enum-told4.given.1) ∙ looked.token-words.ensures in
     by-nesting a.list.now a.sizes a.used a.limit _ whole _ room _ words c.nesting.result c.nesting.ensures
 
-pub accept-spec : {M : Type 1} → statement M
-accept-spec =
+pub accept_spec : {M : Type 1} → statement M
+accept_spec =
     tie.close
     (tie.spec (λ c κs. search rules) (λ c. search rules) (λ c. search rules) returns (λ c κs. search rules) (λ c. search rules)
     (λ c. search rules) returns-2 token-words-requires (λ c. search rules) (λ c. search rules) returns-3 nesting-requires returns-4)

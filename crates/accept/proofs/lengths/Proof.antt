@@ -74,8 +74,8 @@ returns-6 c =
       le-leb (64 * (words / 5) + 64) a.sizes.work (omega arith),
     )
 
-pub lengths-spec : {M : Type 1} → statement M
-lengths-spec =
+pub lengths_spec : {M : Type 1} → statement M
+lengths_spec =
     tie.close
     (tie.spec returns returns-2 (λ c. search needs) returns-3 (λ c. search needs) returns-4 (λ c. search needs) (λ c. search needs)
     returns-5 returns-6)

@@ -52,8 +52,8 @@ returns-3 c =
     ap (λ (o : Option ℕ). verdict a.n (with_number 18 o))
     (sym (within-last a.list.now a.limit a.n at.loop.depth (omega arith) (rw all at at.loop.invariant)))
 
-pub nesting-spec : {M : Type 1} → statement M
-nesting-spec =
+pub nesting_spec : {M : Type 1} → statement M
+nesting_spec =
     tie.close
     (tie.spec invariant-loop decreases-loop returns (λ c. let a = c.before.before.args in within_first a.list.now a.limit a.n)
     (λ c. search rules) (λ c. search rules) (λ c. search rules) (λ c κs. search rules) (λ c κs. search rules) returns-2 (λ c. search rules)

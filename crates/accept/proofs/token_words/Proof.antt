@@ -45,8 +45,8 @@ returns-2 c =
     let a = c.before.before.before.args in
     ap (verdict a.n) (sym (c.before.loop.invariant.rest ∙ all-good a.list.now (5 * c.before.loop.i) (omega arith)))
 
-pub token-words-spec : {M : Type 1} → statement M
-token-words-spec =
+pub token_words_spec : {M : Type 1} → statement M
+token_words_spec =
     tie.close
     (tie.spec invariant-loop decreases-loop (λ c. record { within = omega arith; rest = refl }) (λ c. search rules) (λ c κs. search rules)
     (λ c. search rules) (λ c κs. search rules) (λ c. search rules) (λ c. search rules) loop-again (λ c. search rules) returns returns-2)

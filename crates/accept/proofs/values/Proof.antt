@@ -46,5 +46,5 @@ returns-4 c =
     let inside : is_limit a.limit ≡ true = sym tested.ensures ∙ not-false tested.result c.if3.false in
     rw (legal-set legal, le-leb a.source 536870911 (omega arith), inside)
 
-pub values-spec : {M : Type 1} → statement M
-values-spec = tie.close (tie.spec (λ c κs. search needs) returns returns-2 (λ c κs. search needs) returns-3 returns-4)
+pub values_spec : {M : Type 1} → statement M
+values_spec = tie.close (tie.spec (λ c κs. search needs) returns returns-2 (λ c κs. search needs) returns-3 returns-4)

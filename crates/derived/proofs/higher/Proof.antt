@@ -25,8 +25,8 @@ legal c =
     (sym (sym (ap number_of c.before.enum_told.given.1) ∙ (word.ensures ∙ end-tests 0 a.w)))
     ∙ ap (max a.end) (sym c.low.ensures)
 
-pub higher-spec : {M : Type 1} → statement M
-higher-spec =
+pub higher_spec : {M : Type 1} → statement M
+higher_spec =
     tie.close
     (tie.spec (λ c κs. search rules) (λ c. search rules) returns (λ c κs. search rules)
     (λ c. sym (legal c.before ∙ omega (arith, c.if1.true))) (λ c. sym (legal c.before ∙ omega (arith, c.if1.false))))

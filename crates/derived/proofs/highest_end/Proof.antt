@@ -27,8 +27,8 @@ returns c =
     let list = c.before.before.before.args.list.now in
     sym (highest-end list c.before.loop.i c.loop-test.false c.before.loop.end) ∙ c.before.loop.invariant
 
-pub highest-end-spec : {M : Type 1} → statement M
-highest-end-spec =
+pub highest_end_spec : {M : Type 1} → statement M
+highest_end_spec =
     tie.close
     (tie.spec invariant-loop decreases-loop (λ c. from-third 0 c.before.args.list.now) (λ c. search rules) (λ c. search rules)
     (λ c κs. search rules) (λ c. search rules) (λ c. search rules) loop-again returns)

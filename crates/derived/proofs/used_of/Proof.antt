@@ -31,8 +31,8 @@ returns c n =
     let seen = in_halves c.before.loop.used.low c.before.loop.used.high n in
     sym (ap (λ (b : Bool). seen || b) (named_end list c.before.loop.i c.loop-test.false n) ∙ or-false seen) ∙ c.before.loop.invariant n
 
-pub used-of-spec : {M : Type 1} → statement M
-used-of-spec =
+pub used_of_spec : {M : Type 1} → statement M
+used_of_spec =
     tie.close
     (tie.spec invariant-loop decreases-loop (λ c n. ap (λ (b : Bool). b || named operator_field c.before.args.list.now n) (in-none n))
     (λ c. search rules) (λ c. search rules) (λ c κs. search rules) (λ c. search rules) (λ c. search rules) loop-again returns)

@@ -13,8 +13,8 @@ returns-2 c =
     let k = 65535 - bits in
     to_z-of_z (below-fits k (omega arith)) ∙ below-value k (omega arith) ∙ version-high bits (omega arith)
 
-pub version-of-spec : {M : Type 1} → statement M
-version-of-spec =
+pub version_of_spec : {M : Type 1} → statement M
+version_of_spec =
     tie.close
     (tie.spec (λ c. search rules) (λ c. to_z_pos w16 (omega arith) ∙ version_low c.before.args.bits (omega arith)) (λ c. search rules)
     (λ c. search rules) (λ c. below-fits (65535 - c.before.args.bits) (omega arith)) returns-2)

@@ -16,5 +16,5 @@ returns-2 c n =
     let below : a.op - 64 < 64 = omega arith in
     rw (one_bit (a.op - 64) below) (with-high a.used.low a.used.high a.op (search rules) (search rules) n)
 
-pub with-spec : {M : Type 1} → statement M
-with-spec = tie.close (tie.spec (λ c. search rules) returns (λ c. search rules) (λ c. search rules) returns-2)
+pub with_spec : {M : Type 1} → statement M
+with_spec = tie.close (tie.spec (λ c. search rules) returns (λ c. search rules) (λ c. search rules) returns-2)

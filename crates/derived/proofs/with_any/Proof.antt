@@ -38,7 +38,7 @@ returns-3 c n =
     (ap (λ (op : ℕ). eqb op n) numbered.operator.ensures
     ∙ sym (names-low a.w n (legal numbered.before) (rw numbered.operator.ensures at c.before.if1.false)))
 
-pub with-any-spec : {M : Type 1} → statement M
-with-any-spec =
+pub with_any_spec : {M : Type 1} → statement M
+with_any_spec =
     tie.close
     (tie.spec (λ c κs. search rules) (λ c. search rules) returns (λ c κs. search rules) returns-2 (λ c κs. c.if1.false) returns-3)

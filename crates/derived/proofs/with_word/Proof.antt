@@ -19,8 +19,8 @@ returns c n =
     ∙ ap (λ (b : Bool). in_halves a.used.low a.used.high n || b)
     (ap (λ (op : ℕ). eqb op n) (sym number) ∙ sym (names-low a.w n (sym word.legal) (rw number word.last)))
 
-pub with-word-spec : {M : Type 1} → statement M
-with-word-spec =
+pub with_word_spec : {M : Type 1} → statement M
+with_word_spec =
     tie.close
     (tie.spec (λ c κs. search rules) (λ c κs. (c.before.is-low-operator.ensures c.if1.true).last) returns (λ c κs. search rules)
     (λ c. c.with-any.ensures))

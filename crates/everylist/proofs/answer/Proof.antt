@@ -17,8 +17,8 @@ print-requires c κs =
     let start = c.before.before.before.before.before.before.before.before.before in
     (search rules, kept-came _ _ _ _ _ start.requires put.ensures.whole read.ensures)
 
-pub answer-spec : {M : Type 1} → statement M
-answer-spec =
+pub answer_spec : {M : Type 1} → statement M
+answer_spec =
     tie.close
     (tie.spec (λ c. search rules) put-bytes-requires (λ c. search rules) (λ c. search rules) (λ c κs. search rules) (λ c. search rules)
     print-requires (λ c. search rules) (λ c. search rules) (λ c. search rules) (λ c κs. search rules) (λ c. search rules)

@@ -10,8 +10,8 @@ answer-requires c κs =
     let start = read.before.before.before.before in
     long-input start.args.front.now _ read.read-rest.result start.requires read.read-rest.ensures
 
-pub go-on-spec : {M : Type 1} → statement M
-go-on-spec =
+pub go_on_spec : {M : Type 1} → statement M
+go_on_spec =
     tie.close
     (tie.spec (λ c κs. search rules) (λ c. search rules) (λ c κs. search rules) (λ c. search rules)
     (λ c. omega (arith, c.before.before.before.before.read-rest.ensures.room)) answer-requires (λ c κs. search rules)

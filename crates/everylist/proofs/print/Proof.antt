@@ -54,8 +54,8 @@ loop-again c =
       record { text = _; steps = one_more so_far.steps _ (laid told).2 },
     )
 
-pub print-spec : {M : Type 1} → statement M
-print-spec =
+pub print_spec : {M : Type 1} → statement M
+print_spec =
     tie.close
     (tie.spec invariant-loop decreases-loop (λ c. (omega arith, search rules, record { text = _; steps = none_yet })) (λ c. search rules)
     (λ c κs. search rules) (λ c. search rules) (λ c. search rules) returns (λ c. (laid c).0)

@@ -22,8 +22,8 @@ returns-2 c =
     let start = c.before.before.before.before in
     has-adopted start.args.held start.args.version (no-fault c.before) (to_z-of_z start.ranges.version)
 
-pub adopt-version-spec : {M : Type 1} → statement M
-adopt-version-spec =
+pub adopt_version_spec : {M : Type 1} → statement M
+adopt_version_spec =
     tie.close
     (tie.spec (λ c κs. search rules) (λ c. search rules) returns (λ c. search rules)
     (λ c. omega (arith, next-count c.before.before.before.before.args.held (no-fault c.before))) returns-2)

@@ -74,8 +74,8 @@ returns-2 c =
     let start = entry (told read) in
     has-asked (the-state start) (the-edit start) (the_lent start) (no-fault (told read)) (reads read)
 
-pub ask-edit-spec : {M : Type 1} → statement M
-ask-edit-spec =
+pub ask_edit_spec : {M : Type 1} → statement M
+ask_edit_spec =
     tie.close
     (tie.spec (λ c κs. search rules) (λ c. search rules) returns (λ c. search rules) (λ c. omega (arith, (within c.before).few))
     (λ c. search rules) slice-aggregate-read-edited-2 read-edited-requires (λ c. search rules) (λ c. search rules) (λ c. search rules)

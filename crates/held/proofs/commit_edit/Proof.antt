@@ -102,8 +102,8 @@ returns-2 c =
     has-committed (the-state start) start.args.seen (the-edit start) (the_lent start) (reads (read counts)) (next counts)
     (no-fault (told (read counts))) _ (read counts).read-edited.ensures.1 kept.keep.ensures.0 kept.keep.ensures.1
 
-pub commit-edit-spec : {M : Type 1} → statement M
-commit-edit-spec =
+pub commit_edit_spec : {M : Type 1} → statement M
+commit_edit_spec =
     tie.close
     (tie.spec (λ c κs. search rules) (λ c. search rules) (λ c. search rules) returns (λ c. search rules)
     (λ c. omega (arith, (within c.before).0.few)) (λ c. search rules)

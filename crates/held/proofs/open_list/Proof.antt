@@ -56,8 +56,8 @@ returns-2 c =
     has-opened a.words.now a.list.now (the_lent start) a.version room.if1.false (reads read) (held-is start)
     kept.keep.ensures.0 kept.keep.ensures.1
 
-pub open-list-spec : {M : Type 1} → statement M
-open-list-spec =
+pub open_list_spec : {M : Type 1} → statement M
+open_list_spec =
     tie.close
     (tie.spec returns (λ c κs. search rules) keep-requires (λ c. search rules) (λ c. search rules) (λ c. search rules) (λ c. search rules)
     returns-2)

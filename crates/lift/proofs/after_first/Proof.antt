@@ -37,8 +37,8 @@ returns-3 c =
     rw at.before.first3.given.1
     (has-second h at.before.first3.given.0.0 p after.after-second.result _ after.after-second.ensures)
 
-pub after-first-spec : {M : Type 1} → statement M
-after-first-spec =
+pub after_first_spec : {M : Type 1} → statement M
+after_first_spec =
     tie.close
     (tie.spec (λ c. search rules) (λ c. search rules) (λ c. search rules) (λ c κs. search rules) after-second-requires
     (λ c. unfold after_first stopped in rw c.before.first.given.1 refl)

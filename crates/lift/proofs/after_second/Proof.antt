@@ -44,8 +44,8 @@ returns-4 c =
     in
     rw (second.1, is) wrote.write-out2.ensures
 
-pub after-second-spec : {M : Type 1} → statement M
-after-second-spec =
+pub after_second_spec : {M : Type 1} → statement M
+after_second_spec =
     tie.close
     (tie.spec (λ c. search rules) (λ c. search rules) (λ c κs. search rules) (λ c. search rules) same-trees-requires returns
     (λ c κs. search rules) (λ c. unfold after_second in rw c.before.second.given.1 refl) (λ c. search rules) returns-3

@@ -16,5 +16,5 @@ unfolding first_limit
 returns-2 c =
     let e : is_limit c.before.before.args.to ≡ false = sym c.before.is-limit.ensures ∙ c.if1.false in rw (e, first_limit) refl
 
-pub first-limit-spec : {M : Type 1} → statement M
-first-limit-spec = tie.close (tie.spec (λ c κs. search rules) returns returns-2)
+pub first_limit_spec : {M : Type 1} → statement M
+first_limit_spec = tie.close (tie.spec (λ c κs. search rules) returns returns-2)

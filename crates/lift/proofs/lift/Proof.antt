@@ -69,8 +69,8 @@ returns-2 c =
     let free = has_room (given s) _ _ (sym (ap verdict_of told.enum_told.given.1) ∙ found lengths) in
     has_first (given s) free (parsed read) (to_z-of_z s.ranges.to) after.after_first.ensures
 
-pub lift-spec : {M : Type 1} → statement M
-lift-spec =
+pub lift_spec : {M : Type 1} → statement M
+lift_spec =
     tie.close
     (tie.spec (λ c κs. search rules) (λ c κs. search rules) (λ c. search rules) (λ c. search rules) (λ c κs. search rules)
     (λ c κs. search rules) after-first-requires returns (λ c. search rules) (λ c. search rules) (λ c. search rules) (λ c. search rules)

@@ -19,5 +19,5 @@ returns-2 c =
     c.same-words.ensures
     ∙ ap (λ (n : ℕ). eq_words (take (7 * a.nodes) a.tree.now) (take (7 * n) a.again.now)) c.before.if1.false
 
-pub same-trees-spec : {M : Type 1} → statement M
-same-trees-spec = tie.close (tie.spec returns (λ c. search rules) (λ c κs. search rules) returns-2)
+pub same_trees_spec : {M : Type 1} → statement M
+same_trees_spec = tie.close (tie.spec returns (λ c. search rules) (λ c κs. search rules) returns-2)

@@ -82,8 +82,8 @@ returns-2 c =
     out_written s.args.tree.now s.args.output.now s.args.limit s.args.nodes w.write.new.1.0 (list_left w) count
     (wrote at) c.held.result (c.held.ensures ∙ ap (held_told count) c.before.nesting.ensures)
 
-pub write-out-spec : {M : Type 1} → statement M
-write-out-spec =
+pub write_out_spec : {M : Type 1} → statement M
+write_out_spec =
     tie.close
     (tie.spec (λ c. omega (arith, tree-within c.before.before)) slice-aggregate-write (λ c κs. search rules) (λ c. search rules)
     (λ c. search rules) (λ c. omega (arith, room c)) (λ c. room c) slice-aggregate-nesting nesting-requires (λ c κs. search rules)

@@ -11,7 +11,7 @@ hand-requires c κs =
     let came = c.before.before.before.before.before.requires.1 in
     record { input = came.input; is = wrote-front laid ∙ came-prints _ came }
 
-pub answer-spec : {M : Type 1} → statement M
-answer-spec =
+pub answer_spec : {M : Type 1} → statement M
+answer_spec =
     tie.close
     (tie.spec (λ c. search rules) (λ c κs. search rules) (λ c. search rules) (λ c. search rules) hand-requires (λ c. search rules))

@@ -95,8 +95,8 @@ same-length-2 c =
     let at = read.before.before.before.before in
     read.read-on.auto.1.1.0 ∙ (at.loop.invariant.1 ∙ sym at.before.before.before.before.requires.1)
 
-pub read-input-spec : {M : Type 1} → statement M
-read-input-spec =
+pub read_input_spec : {M : Type 1} → statement M
+read_input_spec =
     tie.close
     (tie.spec invariant-loop decreases-loop (λ c κs. search rules) loop-holds (λ c. search rules) (λ c κs. search rules) (λ c. search rules) same_length
     same-length-2 returns (λ c. search rules) loop-again

@@ -42,8 +42,8 @@ hand-last-requires-2 c κs =
           tested.if2.false [];
     }
 
-pub begin-spec : {M : Type 1} → statement M
-begin-spec =
+pub begin_spec : {M : Type 1} → statement M
+begin_spec =
     tie.close
     (tie.spec (λ c. search rules) hand-last-requires (λ c. search rules) (λ c. search rules) (λ c. search rules) (λ c. search rules)
     (λ c. search rules) (λ c κs. search rules) lift-file-requires (λ c. search rules) (λ c. search rules) hand-last-requires-2

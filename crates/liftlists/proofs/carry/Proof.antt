@@ -187,8 +187,8 @@ same-length-20 c = c.before.before.loop.invariant.scratch.work_words ∙ sym c.b
 same-length-21 : tie.Need-same-length-21 invariant-loop decreases-loop
 same-length-21 c = c.before.before.loop.invariant.scratch.output_words ∙ sym c.before.before.before.before.before.before.before.before.before.before.requires.1.0.output_words
 
-pub carry-spec : {M : Type 1} → statement M
-carry-spec =
+pub carry_spec : {M : Type 1} → statement M
+carry_spec =
     tie.close
     (tie.spec invariant-loop decreases-loop loop-holds (λ c. omega arith) read-on-requires (λ c. search rules) (λ c. search rules) (λ c κs. search rules)
     same_length same-length-2 same-length-3 same-length-4 same-length-5 same-length-6 same-length-7 (λ c. search rules) (λ c. search rules)

@@ -11,8 +11,8 @@ carry-requires c κs =
       (record { first_tree = refl; second_tree = refl; work_words = refl; output_words = refl }, p.1),
     )
 
-pub lift-file-spec : {M : Type 1} → statement M
-lift-file-spec =
+pub lift_file_spec : {M : Type 1} → statement M
+lift_file_spec =
     tie.close
     (tie.spec (λ c κs. search rules) (λ c. search rules) (λ c. search rules) (λ c. search rules) (λ c. search rules) (λ c. search rules)
     (λ c. search rules) (λ c. search rules) carry-requires (λ c. search rules))

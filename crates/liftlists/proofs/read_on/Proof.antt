@@ -31,8 +31,8 @@ returns c =
       full = came.ensures.1;
     }
 
-pub read-on-spec : {M : Type 1} → statement M
-read-on-spec =
+pub read_on_spec : {M : Type 1} → statement M
+read_on_spec =
     tie.close
     (tie.spec (λ c κs. search rules) (λ c. search rules) slice-reshare-prefix-feed slice-aggregate-feed feed-requires (λ c. search rules)
     (λ c. search rules) (λ c. search rules) (λ c. search rules) (λ c. search rules) (λ c. search rules) (λ c. search rules) returns)

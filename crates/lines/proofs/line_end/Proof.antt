@@ -11,8 +11,8 @@ invariant-loop text from end₀ end = (from ≤ end) × (end ≤ length text)
 abbrev decreases-loop : tie.decreases-loop
 decreases-loop text from end₀ end = length text - end
 
-pub line-end-spec : {M : Type 1} → statement M
-line-end-spec =
+pub line_end_spec : {M : Type 1} → statement M
+line_end_spec =
     tie.close
     (tie.spec invariant-loop decreases-loop (λ c. omega arith) (λ c. omega arith) (λ c. omega arith) (λ c. omega arith) (λ c. omega arith)
     (λ c. omega arith) (λ c. omega arith))

@@ -65,6 +65,8 @@ ends-behind n (j ∷ js) ks h = ends-later n j (js ++ ks) (ends-behind n js ks h
 pub statements-end : (s : Token) (ss rest : Forest) → PlainStatements (node s ss rest)
     → ends_in Operator.semicolon (written_statements (node s ss rest) []) ≡ true
 unfolding written_statements
+statements-end s nil rest x'' = elim x'' [ ]
+statements-end s (node x xs (node _ _ _)) rest x9 = elim x9 [ ]
 statements-end s (node x xs nil) nil (statement _ n _ h e ended) =
     rw (written-before x xs (bare Operator.semicolon x ∷ []))
     (ends-behind Operator.semicolon (written x xs []) (bare Operator.semicolon x ∷ []) (unfold ends_in bare in refl))
@@ -112,6 +114,8 @@ module _ (c a p : Bool) where
   pub lined : (s : Token) (ss rest : Forest) → PlainStatements (node s ss rest) → Lined (node s ss rest)
   unfolding tokens tokens_before written_statements is_text is_line outline several trees operand_tree operand_tokens bare
       is_right_of_question is_under_math_call is_nil
+  lined s nil rest x'' = elim x'' [ ]
+  lined s (node x xs (node _ _ _)) rest x9 = elim x9 [ ]
   lined s (node x xs nil) nil (statement _ n _ h e ended) =
       let y = text_of c a p under_semicolon n x xs refl refl e in
       record {

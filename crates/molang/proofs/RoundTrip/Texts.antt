@@ -480,6 +480,7 @@ module _ (c a p : Bool) where
   unfolding tokens trees signed is_text is_round is_pair is_list outline lacks strength unclosed closed_by closer_of spanning is_bracket
       is_query_or_loop is_one_of any is_entered uses operand_tokens
   query-spelt k x nil e b (nothing u) = absurd (true≢false (sym u ∙ argument-seat k 0 (rw e (unfold computed in refl))))
+  query-spelt k x (node z zs (node _ _ _)) e b x9 = elim x9 [ ]
   query-spelt k x (node z zs nil) e b (something l y) = record {
     text = query k (unclosed x) (closer_of x) y.text;
     writes = writes_one k x (node z zs nil) (section (unclosed x) (closer_of x) y.text) _ (rw e refl)
@@ -497,6 +498,7 @@ module _ (c a p : Bool) where
     holds = rw (h, eqb-true x.op Operator.left_parenthesis b) refl;
     fits = record { states = refl; strong = λ o. le-leb (rank r k.op) _ (omega arith) };
   }
+  math-spelt k x (node z zs (node _ _ _)) h b x9 = elim x9 [ ]
   math-spelt k x (node z zs nil) h b (something l y) = record {
     text = math_call k (unclosed x) (closer_of x) y.text;
     writes = writes_one k x (node z zs nil) (section (unclosed x) (closer_of x) y.text) _

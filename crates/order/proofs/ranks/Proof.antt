@@ -24,5 +24,5 @@ returns-3 c =
     before-5 s.args.version (sym (rw (to_z-of_z s.ranges.version) at test.before.is-from-6.ensures) ∙ test.if1.false)
     (sym (rw (to_z-of_z s.ranges.version) at c.before.is-from-5.ensures) ∙ c.if2.false)
 
-pub ranks-spec : {M : Type 1} → statement M
-ranks-spec = tie.close (tie.spec (λ c κs. search rules) returns (λ c κs. search rules) returns-2 returns-3)
+pub ranks_spec : {M : Type 1} → statement M
+ranks_spec = tie.close (tie.spec (λ c κs. search rules) returns (λ c κs. search rules) returns-2 returns-3)

@@ -14,7 +14,7 @@ returns c =
     (search rules) used.ensures (to_z-of_z start.ranges.version) a.limit)
     c.before.before.before.before.before.before.parse.ensures
 
-pub read-exactly-spec : {M : Type 1} → statement M
-read-exactly-spec =
+pub read_exactly_spec : {M : Type 1} → statement M
+read_exactly_spec =
     tie.close
     (tie.spec (λ c κs. search rules) (λ c κs. search rules) (λ c. search rules) (λ c. search rules) (λ c. search rules) returns)

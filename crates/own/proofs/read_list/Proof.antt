@@ -24,5 +24,5 @@ returns c =
       ),
     )
 
-pub read-list-spec : {M : Type 1} → statement M
-read-list-spec = tie.close (tie.spec (λ c κs. search rules) (λ c. search rules) (λ c. search rules) (λ c. search rules) returns)
+pub read_list_spec : {M : Type 1} → statement M
+read_list_spec = tie.close (tie.spec (λ c κs. search rules) (λ c. search rules) (λ c. search rules) (λ c. search rules) returns)

@@ -13,8 +13,8 @@ returns c =
     (own-call a.list.now a.tree.now a.messages.now a.work.now source.ensures (to_z-of_z start.ranges.version) a.limit)
     c.before.before.before.before.before.before.read-exactly.ensures
 
-pub read-own-spec : {M : Type 1} → statement M
-read-own-spec =
+pub read_own_spec : {M : Type 1} → statement M
+read_own_spec =
     tie.close
     (tie.spec (λ c κs. search rules) (λ c. search rules) (λ c κs. search rules) (λ c. search rules) (λ c. search rules) (λ c. search rules)
     returns)

@@ -53,8 +53,8 @@ returns-3 c =
     one-filled start.requires first.result first.ensures if1.if1.false laid.result laid.new.0 laid.new.1.0
     (sym if2.before.next_of.ensures ∙ if2.if2.false) laid.ensures
 
-pub fill-roots-spec : {M : Type 1} → statement M
-fill-roots-spec =
+pub fill_roots_spec : {M : Type 1} → statement M
+fill_roots_spec =
     tie.close
     (tie.spec (λ c κs. search rules) (λ c κs. search rules) (λ c. search rules) (λ c. search rules) returns next-of-requires
     report-roots-requires (λ c. search rules) (λ c. search rules) returns-2 lay-out-requires (λ c. search rules) (λ c. search rules)

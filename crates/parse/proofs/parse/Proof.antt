@@ -53,8 +53,8 @@ returns-2 c =
     read_meets (the_call start) n r.read.result r.read.new.1.0 r.read.new.1.1.0 clear.new.0 (is_read_lem checks)
     (rw (to_z-of_z start.ranges.version) at r.read.ensures) (clear.ensures ∙ ap (λ (j : ℕ). replicate j 0) long)
 
-pub parse-spec : {M : Type 1} → statement M
-parse-spec =
+pub parse_spec : {M : Type 1} → statement M
+parse_spec =
     tie.close
     (tie.spec (λ c κs. search rules) (λ c. search rules) (λ c. search rules) (λ c. omega (arith, (known c.before).source))
     (λ c. omega (arith, (known c.before).tokens)) (λ c. omega (arith, (known c.before).tokens)) (λ c. (known c.before).work)

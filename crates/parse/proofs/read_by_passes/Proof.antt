@@ -37,8 +37,8 @@ returns c =
     start.args.source fill.fill.result fill.fill.new.1.0 fill.fill.new.1.1.0
     (to_z-of_z (record { sfits = version.type-inv }) ∙ (version.ensures ∙ ap effective (to_z-of_z start.ranges.version))) fill.fill.ensures
 
-pub read-by-passes-spec : {M : Type 1} → statement M
-read-by-passes-spec =
+pub read_by_passes_spec : {M : Type 1} → statement M
+read_by_passes_spec =
     tie.close
     (tie.spec (λ c κs. read-load c.before.before.before.before.before.requires) (λ c κs. search rules) (λ c κs. search rules)
     group-requires fill-requires (λ c. search rules) (λ c. search rules) (λ c. search rules) returns)

@@ -38,8 +38,8 @@ returns-3 c =
     let s = at.before.before.before.before.before.before.before.before in
     (rw (to_z-of_z s.ranges.version) at write-and-read.write-and-read.ensures) ∙ known s _ at.before.first3.given.1
 
-pub after-first-spec : {M : Type 1} → statement M
-after-first-spec =
+pub after_first_spec : {M : Type 1} → statement M
+after_first_spec =
     tie.close
     (tie.spec (λ c. search rules) (λ c. search rules) (λ c. search rules) write-and-read-requires returns returns-2 (λ c. search rules)
     (λ c. search rules) (λ c. search rules) (λ c. search rules) returns-3)

@@ -24,5 +24,5 @@ returns-3 c =
     let a = c.before.before.before.args in
     sym (ap (λ (r : Answer). second_told a.nodes a.count (told_of r)) c.before.second3.given.1)
 
-pub after-second-spec : {M : Type 1} → statement M
-after-second-spec = tie.close (tie.spec (λ c. search rules) (λ c. search rules) (λ c. search rules) returns returns-2 returns-3)
+pub after_second_spec : {M : Type 1} → statement M
+after_second_spec = tie.close (tie.spec (λ c. search rules) (λ c. search rules) (λ c. search rules) returns returns-2 returns-3)

@@ -49,8 +49,8 @@ returns c =
     (parsed at) (to_z-of_z s.ranges.version-again)
     on.after_first.ensures
 
-pub reread-spec : {M : Type 1} → statement M
-reread-spec =
+pub reread_spec : {M : Type 1} → statement M
+reread_spec =
     tie.close
     (tie.spec (λ c κs. search rules) after-first-requires (λ c. search rules) (λ c. search rules) (λ c. search rules) (λ c. search rules)
     (λ c. search rules) returns)

@@ -91,8 +91,8 @@ returns-2 c =
     (to_z-of_z s.ranges.version) h.limit) exact.read-exactly.ensures)
     c.after-second.ensures
 
-pub write-and-read-spec : {M : Type 1} → statement M
-write-and-read-spec =
+pub write_and_read_spec : {M : Type 1} → statement M
+write_and_read_spec =
     tie.close
     (tie.spec (λ c. omega (arith, tree-within c.before.before.before.before.before)) slice-aggregate-write (λ c κs. search rules)
     (λ c. search rules) (λ c. search rules) (λ c. omega (arith, room c)) (λ c. room c) slice-aggregate-read-exactly (λ c κs. search rules)

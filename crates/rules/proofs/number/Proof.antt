@@ -45,8 +45,8 @@ returns-2 c =
     let a = c.before.before.before.args in
     unnumbered a.answer a.version a.tree.now a.rules.now c.match.keys2
 
-pub number-spec : {M : Type 1} → statement M
-number-spec =
+pub number_spec : {M : Type 1} → statement M
+number_spec =
     tie.close
     (tie.spec (λ c. search rules) (λ c. omega (arith, (room c).0)) (λ c. sym (length-take-le _ _ (room c.before).0))
     (λ c κs. search rules) (λ c κs. search rules) fill-requires (λ c. search rules) returns returns-2)

@@ -57,8 +57,8 @@ returns-2 c =
     numbers.number.new.1.1.0 (passes let_through) (parsed read)
     (rw (to_z-of_z start.ranges.version) at numbers.number.ensures)
 
-pub parse-ruled-spec : {M : Type 1} → statement M
-parse-ruled-spec =
+pub parse_ruled_spec : {M : Type 1} → statement M
+parse_ruled_spec =
     tie.close
     (tie.spec (λ c κs. search rules) (λ c. search rules) returns (λ c. search rules) (λ c κs. search rules) number-requires
     (λ c. search rules) (λ c. search rules) (λ c. search rules) (λ c. search rules) returns-2)

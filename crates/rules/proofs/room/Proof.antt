@@ -38,5 +38,5 @@ returns-3 c =
     let a = c.before.before.before.before.before.before.args in
     room_fits a.list.now a.sizes a.bytes _ (whole c.before) (omega arith)
 
-pub room-spec : {M : Type 1} → statement M
-room-spec = tie.close (tie.spec (λ c κs. search rules) (λ c. search rules) (λ c. search rules) returns mul-if1 returns-2 returns-3)
+pub room_spec : {M : Type 1} → statement M
+room_spec = tie.close (tie.spec (λ c κs. search rules) (λ c. search rules) (λ c. search rules) returns mul-if1 returns-2 returns-3)

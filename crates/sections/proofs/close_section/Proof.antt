@@ -90,8 +90,8 @@ returns-2 c =
       refl,
     )
 
-pub close-section-spec : {M : Type 1} → statement M
-close-section-spec =
+pub close_section_spec : {M : Type 1} → statement M
+close_section_spec =
     tie.close
     (tie.spec (λ c. search rules) (λ c κs. search rules) (λ c. omega (arith, within c)) (λ c. omega (arith, within c))
     (λ c. within c.before) (λ c κs. let o = c.before.before in omega (arith, (body o).1, within o)) (λ c κs. search rules)

@@ -36,8 +36,8 @@ returns-2 c =
       long = simp length-set;
     }
 
-pub member-spec : {M : Type 1} → statement M
-member-spec =
+pub member_spec : {M : Type 1} → statement M
+member_spec =
     tie.close
     (tie.spec (λ c. search rules) (λ c. search rules) (λ c. search rules) (λ c. search rules)
     (λ c κs. let g = c.before.before.before.requires in omega (arith, member-in g, g.room)) (λ c κs. search rules) attach-requires

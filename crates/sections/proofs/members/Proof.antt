@@ -88,8 +88,8 @@ returns-2 c =
       long = (v.1 v.0).2.long;
     }
 
-pub members-spec : {M : Type 1} → statement M
-members-spec =
+pub members_spec : {M : Type 1} → statement M
+members_spec =
     tie.close
     (tie.spec invariant-loop decreases-loop (λ c. (c.before.requires, λ g. join-start g)) (λ c. let b = inside c in omega arith)
     (λ c. let b = inside c in omega arith) (λ c. inside c.before) (λ c. let b = inside c.before in omega arith)

@@ -152,8 +152,8 @@ returns-3 c =
       long = r.ensures.0.long ∙ (now-at o pre).2.long;
     })
 
-pub sections-spec : {M : Type 1} → statement M
-sections-spec =
+pub sections_spec : {M : Type 1} → statement M
+sections_spec =
     tie.close
     (tie.spec invariant-open decreases-open invariant-tokens decreases-tokens (λ c. omega (arith, c.before.requires.room))
     (λ c. (c.before.requires, refl, λ g. walk_start g)) (λ c. (omega arith, c.if1.false, λ W₀ g v. v)) (λ c. omega (arith, inside c))

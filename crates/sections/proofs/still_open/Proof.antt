@@ -15,8 +15,8 @@ returns c =
       outer = ap (λ (n : ℕ). wd a.work.now (a.base + n)) c.before.before.before.opener-at2.ensures;
     }
 
-pub still-open-spec : {M : Type 1} → statement M
-still-open-spec =
+pub still_open_spec : {M : Type 1} → statement M
+still_open_spec =
     tie.close
     (tie.spec (λ c. search rules) (λ c κs. search rules) (λ c κs. search rules) (λ c. search rules) (λ c. search rules) (λ c. search rules)
     (λ c. search rules) (λ c. search rules) (λ c. search rules) (λ c. search rules) (λ c. search rules) (λ c. search rules)

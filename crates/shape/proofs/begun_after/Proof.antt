@@ -14,8 +14,8 @@ returns-2 c =
     λ called w. not-operator (λ f. n ≡ (shape_after (field_of f) w (shape called n)).begun) refl refl refl refl refl refl
     c.before.args.field c.match.keys2
 
-pub begun-after-spec : {M : Type 1} → statement M
-begun-after-spec =
+pub begun_after_spec : {M : Type 1} → statement M
+begun_after_spec =
     tie.close
     (tie.spec (λ c. search rules) (λ c. search rules) (λ c. unfold shape_after in λ called w. rw (c.enum_told.given.1, add-one))
     returns-2)

@@ -14,8 +14,8 @@ returns-2 c =
     λ begun. not-count (λ f. a.called ≡ (shape_after (field_of f) a.w (shape a.called begun)).called) refl refl refl refl refl refl
     a.field c.match.keys2
 
-pub called-after-spec : {M : Type 1} → statement M
-called-after-spec =
+pub called_after_spec : {M : Type 1} → statement M
+called_after_spec =
     tie.close
     (tie.spec (λ c. search rules) (λ c κs. search rules) (λ c. unfold low_of in omega (arith, c.low.ensures))
     (λ c. unfold shape_after in λ begun. rw (c.before.enum_told.given.1, c.low.ensures)) returns-2)

@@ -30,5 +30,5 @@ returns-3 c =
     (sym c.before.before.before.before.is-legal.ensures ∙ not-false _ c.before.before.before.if1.false)
     (omega (arith, c.before.before.begun-after.ensures a.called a.w)))
 
-pub continues-spec : {M : Type 1} → statement M
-continues-spec = tie.close (tie.spec (λ c κs. search needs) returns (λ c κs. search needs) returns-2 (λ c κs. search needs) returns-3)
+pub continues_spec : {M : Type 1} → statement M
+continues_spec = tie.close (tie.spec (λ c κs. search needs) returns (λ c κs. search needs) returns-2 (λ c κs. search needs) returns-3)

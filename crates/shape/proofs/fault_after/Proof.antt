@@ -54,8 +54,8 @@ returns-3 c =
     (fault-end tree_walk _ _ _ _ (shape h.loop.called h.loop.begun) h.loop.invariant.same c.before.before.loop-test.false
     (sym c.before.is_whole.ensures ∙ c.if2.false))
 
-pub fault-after-spec : {M : Type 1} → statement M
-fault-after-spec =
+pub fault_after_spec : {M : Type 1} → statement M
+fault_after_spec =
     tie.close
     (tie.spec invariant-loop decreases-loop (λ c. c.before.requires) (λ c. search needs) (λ c. search needs)
     (λ c κs. (c.before.before.loop.invariant.enough, c.before.before.loop.invariant.few)) returns (λ c κs. search needs)

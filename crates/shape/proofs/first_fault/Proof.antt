@@ -3,5 +3,5 @@ use borrow.Author.Rules.{rules}
 use Rattle.shape.proofs.first_fault.Statement.{statement}
 use Rattle.shape.proofs.first_fault.Tie as tie
 
-pub first-fault-spec : {M : Type 1} → statement M
-first-fault-spec = tie.close (tie.spec (λ c κs. search rules) (λ c κs. c.whole-nodes.ensures) (λ c. c.fault-after.ensures))
+pub first_fault_spec : {M : Type 1} → statement M
+first_fault_spec = tie.close (tie.spec (λ c κs. search rules) (λ c κs. c.whole-nodes.ensures) (λ c. c.fault-after.ensures))

@@ -11,5 +11,5 @@ returns c = unfold word_fault field_kind first_of must in rw (ne_eqb _ 6 (rw c.b
 returns-2 : tie.Need-returns-2
 returns-2 c = rw c.low.ensures (sym (legal-count _ (sym c.before.before.kind.ensures ∙ c.before.if1.false)))
 
-pub is-count-spec : {M : Type 1} → statement M
-is-count-spec = tie.close (tie.spec (λ c κs. search needs) returns (λ c κs. search needs) returns-2)
+pub is_count_spec : {M : Type 1} → statement M
+is_count_spec = tie.close (tie.spec (λ c κs. search needs) returns (λ c κs. search needs) returns-2)

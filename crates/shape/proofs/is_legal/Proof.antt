@@ -26,8 +26,8 @@ returns-7 : tie.Need-returns-7
 unfolding word_fault field_kind low_fault
 returns-7 c = rw c.before.before.enum-told7.given.1 (c.is-good5.ensures ∙ ap is_legal c.before.span-word3.ensures)
 
-pub is-legal-spec : {M : Type 1} → statement M
-is-legal-spec =
+pub is_legal_spec : {M : Type 1} → statement M
+is_legal_spec =
     tie.close
     (tie.spec (λ c. search rules) (λ c κs. search rules) (λ c. search rules) (λ c κs. search rules) (λ c κs. search rules)
     (λ c. search rules) (λ c κs. search rules) (λ c κs. search rules) (λ c. search rules) (λ c κs. search rules) (λ c κs. search rules)

@@ -35,8 +35,8 @@ returns-7 c =
       close = sym c.is-legal7.ensures ∙ e;
     }
 
-pub is-node-spec : {M : Type 1} → statement M
-is-node-spec =
+pub is_node_spec : {M : Type 1} → statement M
+is_node_spec =
     tie.close
     (tie.spec (λ c. search needs) (λ c. search needs) (λ c κs. search needs) (λ c. λ e. absurd (false≢true e)) (λ c. search needs)
     (λ c. search needs) (λ c. search needs) (λ c κs. search needs) (λ c. λ e. absurd (false≢true e)) (λ c. search needs)

@@ -16,8 +16,8 @@ returns-3 c =
     (sym (by_number measured.before.before.args.w measured.before.if1.false
     (rw measured.variant.ensures at judged.if2.false)))
 
-pub is-operator-spec : {M : Type 1} → statement M
-is-operator-spec =
+pub is_operator_spec : {M : Type 1} → statement M
+is_operator_spec =
     tie.close
     (tie.spec (λ c. sym (other-kind c.before.args.w c.if1.true)) (λ c κs. search rules) returns-2 (λ c κs. search rules)
     (λ c κs. search rules) returns-3)

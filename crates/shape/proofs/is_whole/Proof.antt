@@ -12,5 +12,5 @@ returns-2 c =
     let a = c.before.args in
     not-operator (λ f. false ≡ is_whole (field_of f) (shape a.called a.begun)) refl refl refl refl refl refl a.field c.match.keys2
 
-pub is-whole-spec : {M : Type 1} → statement M
-is-whole-spec = tie.close (tie.spec (λ c. search rules) (λ c. unfold is_whole in rw c.enum_told.given.1) returns-2)
+pub is_whole_spec : {M : Type 1} → statement M
+is_whole_spec = tie.close (tie.spec (λ c. search rules) (λ c. unfold is_whole in rw c.enum_told.given.1) returns-2)

@@ -4,8 +4,8 @@ use borrow.Author.Rules.{rules}
 use Rattle.shape.proofs.next.Statement.{statement}
 use Rattle.shape.proofs.next.Tie as tie
 
-pub next-spec : {M : Type 1} → statement M
-next-spec =
+pub next_spec : {M : Type 1} → statement M
+next_spec =
     tie.close
     (tie.spec (λ c. search rules) (λ c. search rules) (λ c. search rules) (λ c. search rules) (λ c. search rules) (λ c. search rules)
     (λ c. search rules) (λ c. unfold next_in_node in rw c.enum_told.given.1) (λ c. unfold next_in_node in rw c.enum-told2.given.1)

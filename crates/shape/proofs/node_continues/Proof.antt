@@ -16,8 +16,8 @@ returns-3 c =
       few = rw c.low.ensures at (leb-true (judged.before.before.before.args.called + c.low.result) most_nodes e);
     }
 
-pub node-continues-spec : {M : Type 1} → statement M
-node-continues-spec =
+pub node_continues_spec : {M : Type 1} → statement M
+node_continues_spec =
     tie.close
     (tie.spec (λ c. λ e. absurd (false≢true e)) (λ c κs. search needs) (λ c. λ e. absurd (false≢true e)) (λ c. search needs)
     (λ c. search needs) (λ c. search needs) (λ c κs. search needs) (λ c. unfold low_of in omega (arith, c.low.ensures)) returns-3)

@@ -13,8 +13,8 @@ returns-2 c =
     let a = c.before.args in
     not-operator (λ f. a.variant ≡ variant_after (field_of f) a.variant a.w) refl refl refl refl refl refl a.field c.match.keys2
 
-pub variant-after-spec : {M : Type 1} → statement M
-variant-after-spec =
+pub variant_after_spec : {M : Type 1} → statement M
+variant_after_spec =
     tie.close
     (tie.spec (λ c. search rules) (λ c κs. search rules)
     (λ c. unfold variant_after variant_of in rw c.before.enum_told.given.1 c.variant.ensures) returns-2)

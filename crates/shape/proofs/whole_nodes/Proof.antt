@@ -33,8 +33,8 @@ loop-again c =
     (judged.node-continues.ensures (not-false _ c.before.before.if1.false))
     (omega (arith, c.low.ensures))
 
-pub whole-nodes-spec : {M : Type 1} → statement M
-whole-nodes-spec =
+pub whole_nodes_spec : {M : Type 1} → statement M
+whole_nodes_spec =
     tie.close
     (tie.spec invariant-loop decreases-loop (λ c. seen_start c.before.args.tree.now) (λ c. omega (arith, c.loop.invariant.within))
     (λ c κs. (omega (arith, c.before.loop.invariant.within), c.before.loop.invariant.few)) (λ c. c.before.before.before.loop.invariant)

@@ -55,7 +55,7 @@ returns-3 c =
     let both = listed a.alphabet.now a.length a.position told.unrefused told.short (below c.before) in
     (c.list_of.ensures.0 ∙ both.0, c.list_of.ensures.1 ∙ both.1)
 
-pub list-at-spec : {M : Type 1} → statement M
-list-at-spec =
+pub list_at_spec : {M : Type 1} → statement M
+list_at_spec =
     tie.close
     (tie.spec (λ c κs. search rules) (λ c. search rules) (λ c. search rules) returns list-of-requires returns-2 returns-3)

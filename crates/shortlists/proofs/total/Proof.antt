@@ -42,8 +42,8 @@ returns c =
     let last : at.i + 1 ≡ suc c.before.before.args.n = omega arith in
     rw last at at.invariant.2
 
-pub total-spec : {M : Type 1} → statement M
-total-spec =
+pub total_spec : {M : Type 1} → statement M
+total_spec =
     tie.close
     (tie.spec invariant-loop decreases-loop (λ c. (omega arith, sym (pow-zero c.args.letters), powers-one c.args.letters))
     (λ c. omega (arith, next c)) add-all (λ c. search rules) (λ c. search rules) loop-again returns)

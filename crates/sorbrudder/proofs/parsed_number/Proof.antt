@@ -25,7 +25,7 @@ returns-2 c = sym (ap (λ (r : Answer). told_number (told_of r)) c.before.answer
 returns-3 : tie.Need-returns-3
 returns-3 c = c.refusal.ensures ∙ sym (ap (λ (r : Answer). told_number (told_of r)) c.before.before.answer3.given.1)
 
-pub parsed-number-spec : {M : Type 1} → statement M
-parsed-number-spec =
+pub parsed_number_spec : {M : Type 1} → statement M
+parsed_number_spec =
     tie.close
     (tie.spec (λ c. search rules) (λ c. search rules) add-result (λ c. search rules) refusal-requires returns returns-2 returns-3)

@@ -19,5 +19,5 @@ returns c =
 returns-2 : tie.Need-returns-2
 returns-2 c = c.refusal.ensures ∙ sym (ap (λ (r : Reordered). reorder_number (told_of r)) c.before.before.reordered2.given.1)
 
-pub reordered-number-spec : {M : Type 1} → statement M
-reordered-number-spec = tie.close (tie.spec (λ c. search rules) (λ c. search rules) refusal-requires returns returns-2)
+pub reordered_number_spec : {M : Type 1} → statement M
+reordered_number_spec = tie.close (tie.spec (λ c. search rules) (λ c. search rules) refusal-requires returns returns-2)

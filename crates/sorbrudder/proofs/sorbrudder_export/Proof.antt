@@ -18,5 +18,5 @@ returns c =
     let done = c.before.before.before.export.ensures in
     (c.reordered-number.ensures ∙ ap reorder_number done.0, done.1)
 
-pub sorbrudder-export-spec : {M : Type 1} → statement M
-sorbrudder-export-spec = tie.close (tie.spec (λ c κs. search rules) reordered-number-requires (λ c. search rules) returns)
+pub sorbrudder_export_spec : {M : Type 1} → statement M
+sorbrudder_export_spec = tie.close (tie.spec (λ c κs. search rules) reordered-number-requires (λ c. search rules) returns)

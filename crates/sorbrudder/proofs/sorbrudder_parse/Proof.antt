@@ -23,7 +23,7 @@ returns c =
       work = read.work;
     }
 
-pub sorbrudder-parse-spec : {M : Type 1} → statement M
-sorbrudder-parse-spec =
+pub sorbrudder_parse_spec : {M : Type 1} → statement M
+sorbrudder_parse_spec =
     tie.close
     (tie.spec (λ c κs. search rules) parsed-number-requires (λ c. search rules) (λ c. search rules) (λ c. search rules) returns)

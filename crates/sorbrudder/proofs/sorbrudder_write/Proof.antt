@@ -18,5 +18,5 @@ returns c =
     let wrote = c.before.before.before.write.ensures in
     (c.written-number.ensures ∙ ap write_number wrote.0, wrote.1)
 
-pub sorbrudder-write-spec : {M : Type 1} → statement M
-sorbrudder-write-spec = tie.close (tie.spec (λ c κs. search rules) written-number-requires (λ c. search rules) returns)
+pub sorbrudder_write_spec : {M : Type 1} → statement M
+sorbrudder_write_spec = tie.close (tie.spec (λ c κs. search rules) written-number-requires (λ c. search rules) returns)

@@ -18,5 +18,5 @@ returns c = sym (ap (λ (r : Written). write_number (told_of r)) c.before.writte
 returns-2 : tie.Need-returns-2
 returns-2 c = c.refusal.ensures ∙ sym (ap (λ (r : Written). write_number (told_of r)) c.before.before.written2.given.1)
 
-pub written-number-spec : {M : Type 1} → statement M
-written-number-spec = tie.close (tie.spec (λ c. search rules) (λ c. search rules) refusal-requires returns returns-2)
+pub written_number_spec : {M : Type 1} → statement M
+written_number_spec = tie.close (tie.spec (λ c. search rules) (λ c. search rules) refusal-requires returns returns-2)

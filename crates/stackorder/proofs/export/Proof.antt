@@ -34,8 +34,8 @@ returns c =
     exported a.tree.now a.output.now _ (turned-back judged) filled.fill.result filled.fill.new.1.0
     filled.fill.ensures
 
-pub export-spec : {M : Type 1} → statement M
-export-spec =
+pub export_spec : {M : Type 1} → statement M
+export_spec =
     tie.close
     (tie.spec (λ c κs. search rules) (λ c κs. search rules) (λ c κs. search rules) (λ c κs. search rules) fill-requires (λ c. search rules)
     returns)

@@ -34,8 +34,8 @@ returns c =
     imported a.words.now a.output.now _ (turned-back judged) filled.fill.result filled.fill.new.1.0
     filled.fill.ensures
 
-pub import-spec : {M : Type 1} → statement M
-import-spec =
+pub import_spec : {M : Type 1} → statement M
+import_spec =
     tie.close
     (tie.spec (λ c κs. search rules) (λ c κs. search rules) (λ c κs. search rules) (λ c κs. search rules) fill-requires (λ c. search rules)
     returns)

@@ -5,8 +5,8 @@ use lib.ListN.{get_or-eq_default}
 use Rattle.table.proofs.at.Statement.{statement}
 use Rattle.table.proofs.at.Tie as tie
 
-pub at-spec : {M : Type 1} → statement M
-at-spec =
+pub at_spec : {M : Type 1} → statement M
+at_spec =
     tie.close
     (tie.spec (λ c. search rules) (λ c. search rules) (λ c. search rules)
     (λ c. sym (get_or-eq_default c.before.args.numbers.now 0 c.if1.false)))

@@ -24,8 +24,8 @@ returns-3 c =
 returns-4 : tie.Need-returns-4
 returns-4 c = c.at4.ensures ∙ record-argument c.before.before.before.args.message.now _ (omega arith) (omega arith)
 
-pub field-word-spec : {M : Type 1} → statement M
-field-word-spec =
+pub field_word_spec : {M : Type 1} → statement M
+field_word_spec =
     tie.close
     (tie.spec (λ c κs. search rules) (λ c κs. search rules) (λ c κs. search rules) (λ c. omega arith) (λ c κs. search rules) returns
     returns-2 returns-3 returns-4)

@@ -45,8 +45,8 @@ returns-2 c =
     ap (leb at.before.said-count.result) end
     ∙ (sym (word_none a.said.now _ a.rest a.buffer.now at.loop.i (omega arith)) ∙ at.loop.invariant.1)
 
-pub holds-spec : {M : Type 1} → statement M
-holds-spec =
+pub holds_spec : {M : Type 1} → statement M
+holds_spec =
     tie.close
     (tie.spec invariant-loop decreases-loop (λ c κs. search rules) loop-holds (λ c. omega arith) (λ c. omega arith) (λ c κs. search rules) returns
     (λ c. omega arith) (λ c. omega arith) loop-again returns-2)

@@ -42,8 +42,8 @@ returns-2 c =
       (with-room (length a.words.now) _ _ c.before.word_count.ensures (omega arith), omega arith),
     )
 
-pub lay-spec : {M : Type 1} → statement M
-lay-spec =
+pub lay_spec : {M : Type 1} → statement M
+lay_spec =
     tie.close
     (tie.spec invariant-loop decreases-loop (λ c. unfold first_words in (omega arith, refl, refl)) (λ c κs. search rules) (λ c. omega arith)
     (λ c. omega arith) (λ c. omega arith) (λ c. omega arith) loop-again (λ c κs. search rules) (λ c. omega arith) returns

@@ -39,8 +39,8 @@ returns-2 c =
     let a = at.before.before.args in
     (sym (no_number a.last a.numbers.now at.loop.end c.loop-test.false) ∙ at.loop.invariant.0, at.loop.invariant.1)
 
-pub next-mark-spec : {M : Type 1} → statement M
-next-mark-spec =
+pub next_mark_spec : {M : Type 1} → statement M
+next_mark_spec =
     tie.close
     (tie.spec invariant-loop decreases-loop (λ c. (refl, omega arith)) (λ c. omega arith) (λ c. omega arith) (λ c κs. tt) returns (λ c. omega arith)
     (λ c. omega arith) loop-again returns-2)

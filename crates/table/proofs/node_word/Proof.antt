@@ -19,7 +19,7 @@ returns-3 c =
     let start = c.before.before.before in
     c.token-word.ensures ∙ node-token start.args.node start.args.field (omega arith)
 
-pub node-word-spec : {M : Type 1} → statement M
-node-word-spec =
+pub node_word_spec : {M : Type 1} → statement M
+node_word_spec =
     tie.close
     (tie.spec (λ c κs. search rules) (λ c κs. search rules) returns (λ c κs. search rules) returns-2 (λ c κs. omega arith) returns-3)

@@ -20,8 +20,8 @@ returns-2 c =
     let a = marked.before.before.args in
     c.field-word2.ensures ∙ second-record a.said.now _ a.i marked.next-mark.ensures.0 c.before.before.if1.false
 
-pub record-word-spec : {M : Type 1} → statement M
-record-word-spec =
+pub record_word_spec : {M : Type 1} → statement M
+record_word_spec =
     tie.close
     (tie.spec (λ c κs. search rules) (λ c. omega arith) (λ c. omega arith) (λ c. omega arith) (λ c κs. omega arith) returns
     (λ c. search rules) (λ c. omega arith) (λ c. omega arith) (λ c. search rules) (λ c κs. omega arith) returns-2)

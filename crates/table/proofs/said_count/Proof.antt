@@ -15,5 +15,5 @@ returns-2 c =
     let a = c.before.before.before.args in
     not-own-mark a.mark _ a.said.now c.before.at.ensures c.if1.false
 
-pub said-count-spec : {M : Type 1} → statement M
-said-count-spec = tie.close (tie.spec (λ c κs. search rules) (λ c κs. search rules) returns returns-2)
+pub said_count_spec : {M : Type 1} → statement M
+said_count_spec = tie.close (tie.spec (λ c κs. search rules) (λ c κs. search rules) returns returns-2)

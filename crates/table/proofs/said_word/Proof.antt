@@ -9,8 +9,8 @@ returns c =
     let a = c.before.before.before.args in
     c.word.ensures ∙ word-said a.said.now a.n a.rest a.i c.before.if1.true
 
-pub said-word-spec : {M : Type 1} → statement M
-said-word-spec =
+pub said_word_spec : {M : Type 1} → statement M
+said_word_spec =
     tie.close
     (tie.spec (λ c κs. search rules) returns
     (λ c. let a = c.before.before.args in word_after a.said.now a.n a.rest a.i c.if1.false))

@@ -7,8 +7,8 @@ use Rattle.table.specs.Marked.{token_word}
 use Rattle.table.proofs.token_word.Statement.{statement}
 use Rattle.table.proofs.token_word.Tie as tie
 
-pub token-word-spec : {M : Type 1} → statement M
-token-word-spec =
+pub token_word_spec : {M : Type 1} → statement M
+token_word_spec =
     tie.close
     (tie.spec (λ c κs. search rules) (λ c κs. search rules) (λ c κs. search rules) (λ c κs. search rules) (λ c κs. search rules)
     (λ c. unfold token_word token_words in rw c.before.match.keys1 c.number_word.ensures)

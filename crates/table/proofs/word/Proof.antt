@@ -55,8 +55,8 @@ returns-6 c =
     in
     c.token-word3.ensures ∙ (rw c.before.at5.ensures (other-mark a.marked.now a.i _ read.at.ensures apart))
 
-pub word-spec : {M : Type 1} → statement M
-word-spec =
+pub word_spec : {M : Type 1} → statement M
+word_spec =
     tie.close
     (tie.spec (λ c κs. search rules) (λ c. omega arith) (λ c κs. search rules) (λ c κs. omega arith)
     (λ c κs. has-mark c.before.before.before.args.marked.now _ c.before.at.ensures (omega arith)) (λ c. omega arith)

@@ -53,8 +53,8 @@ returns-6 c =
     in
     ap (λ (n : ℕ). 5 * n) read.before.items.ensures ∙ count-other a.marked.now _ read.at2.ensures apart
 
-pub word-count-spec : {M : Type 1} → statement M
-word-count-spec =
+pub word_count_spec : {M : Type 1} → statement M
+word_count_spec =
     tie.close
     (tie.spec (λ c κs. search rules) (λ c κs. search rules) (λ c κs. search rules) (λ c κs. search rules) (λ c. omega arith)
     (λ c. omega arith) (λ c. omega arith) (λ c. omega arith) returns returns-2 returns-3 returns-4 returns-5 returns-6)

@@ -24,8 +24,8 @@ loop-again c =
       laid_next a.out.now at.loop.out a.at a.bytes.now i at.before.requires (omega arith) v.2,
     )
 
-pub put-bytes-spec : {M : Type 1} → statement M
-put-bytes-spec =
+pub put_bytes_spec : {M : Type 1} → statement M
+put_bytes_spec =
     tie.close
     (tie.spec invariant-loop decreases-loop (λ c. (omega arith, refl, none-laid _ _)) (λ c. omega arith) (λ c. omega arith) (λ c. omega arith)
     (λ c. omega arith) (λ c. omega arith) loop-again (λ c. omega arith) (λ c. c.before.loop.invariant.1)

@@ -17,7 +17,7 @@ returns c =
     wrote-decimal d.before.before.before.args.n d.decimal.result (omega arith) d.decimal.ensures.1.0
     d.decimal.ensures.1.1 c.before.before.put-bytes.ensures
 
-pub put-decimal-spec : {M : Type 1} → statement M
-put-decimal-spec =
+pub put_decimal_spec : {M : Type 1} → statement M
+put_decimal_spec =
     tie.close
     (tie.spec (λ c κs. search rules) (λ c. search rules) (λ c. search rules) put-bytes-requires (λ c. search rules) returns)

@@ -16,5 +16,5 @@ returns c =
     wrote_then (omega arith) c.before.before.before.before.before.before.before.put-decimal.ensures
     c.before.before.put-bytes.ensures
 
-pub put-number-spec : {M : Type 1} → statement M
-put-number-spec = tie.close (tie.spec (λ c κs. search rules) (λ c. search rules) put-bytes-requires (λ c. search rules) returns)
+pub put_number_spec : {M : Type 1} → statement M
+put_number_spec = tie.close (tie.spec (λ c κs. search rules) (λ c. search rules) put-bytes-requires (λ c. search rules) returns)

@@ -18,8 +18,8 @@ hand-requires c κs =
     let came = c.before.before.before.before.before.before.before.before.before.requires in
     record { input = came.input; is = wrote-front laid ∙ front-prints _ _ _ came put.ensures.whole }
 
-pub answer-input-spec : {M : Type 1} → statement M
-answer-input-spec =
+pub answer_input_spec : {M : Type 1} → statement M
+answer_input_spec =
     tie.close
     (tie.spec (λ c. search rules) put-bytes-requires (λ c. search rules) (λ c. search rules) (λ c κs. search rules) (λ c. search rules)
     (λ c. search rules) hand-requires (λ c. search rules))

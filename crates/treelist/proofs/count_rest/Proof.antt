@@ -37,8 +37,8 @@ same_length c =
     let read = c.before.before.before in
     let at = read.before.before.before in read.read-on.auto.1.0 ∙ (at.loop.invariant.0 ∙ sym at.before.before.requires)
 
-pub count-rest-spec : {M : Type 1} → statement M
-count-rest-spec =
+pub count_rest_spec : {M : Type 1} → statement M
+count_rest_spec =
     tie.close
     (tie.spec invariant-loop decreases-loop (λ c. (c.before.requires, omega arith, record { before = []; size = refl; room = omega arith }))
     (λ c. search rules) (λ c κs. search rules) (λ c. search rules) same_length (λ c. came c.before.before.before) (λ c. search rules)

@@ -11,8 +11,8 @@ answer-input-requires c κs =
     long-input start.args.front.now _ read.count-rest.result.last read.count-rest.result.bytes start.requires
     read.count-rest.ensures
 
-pub go-on-spec : {M : Type 1} → statement M
-go-on-spec =
+pub go_on_spec : {M : Type 1} → statement M
+go_on_spec =
     tie.close
     (tie.spec (λ c κs. search rules) (λ c. search rules) (λ c κs. search rules) (λ c. search rules)
     (λ c. omega (arith, c.before.before.before.before.count-rest.ensures.room)) answer-input-requires (λ c κs. search rules)

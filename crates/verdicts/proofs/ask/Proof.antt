@@ -15,8 +15,8 @@ returns c =
     let words = asked-words fresh.fresh-list.result _ asked _ (omega arith) laid.lay.ensures.0 laid.lay.ensures.1.0 in
     rw (← words, ← read.at.ensures) c.call.ensures
 
-pub ask-spec : {M : Type 1} → statement M
-ask-spec =
+pub ask_spec : {M : Type 1} → statement M
+ask_spec =
     tie.close
     (tie.spec (λ c κs. search rules) (λ c. search rules) (λ c κs. search rules) (λ c. search rules) (λ c. search rules) (λ c. search rules)
     (λ c κs. search rules) (λ c κs. search rules) returns)

@@ -17,5 +17,5 @@ returns-2 c =
     let chosen = c.before in
     rw (words_verdict, ne_eqb chosen.before.before.before.args.mark write_mark chosen.if1.false) c.read_at.ensures
 
-pub call-spec : {M : Type 1} → statement M
-call-spec = tie.close (tie.spec (λ c κs. search needs) returns (λ c κs. search needs) returns-2)
+pub call_spec : {M : Type 1} → statement M
+call_spec = tie.close (tie.spec (λ c κs. search needs) returns (λ c κs. search needs) returns-2)

@@ -17,7 +17,7 @@ returns-3 c =
     let a = c.before.before.args in
     rw (first_difference, not-false a.told c.before.if1.false, not-false a.left c.if2.false)
 
-pub compared-spec : {M : Type 1} → statement M
-compared-spec =
+pub compared_spec : {M : Type 1} → statement M
+compared_spec =
     tie.close
     (tie.spec (λ c. unfold first_difference must first_of in rw (first_difference, not-true c.before.args.told c.if1.true)) returns-2 returns-3)

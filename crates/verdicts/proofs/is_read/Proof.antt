@@ -4,8 +4,8 @@ use Rattle.verdicts.specs.Verdicts.{is_read}
 use Rattle.verdicts.proofs.is_read.Statement.{statement}
 use Rattle.verdicts.proofs.is_read.Tie as tie
 
-pub is-read-spec : {M : Type 1} → statement M
-is-read-spec =
+pub is_read_spec : {M : Type 1} → statement M
+is_read_spec =
     tie.close
     (tie.spec (λ c. search rules) (λ c κs. search rules) (λ c. search rules) (λ c κs. search rules) (λ c. search rules)
     (λ c κs. search rules) (λ c. unfold is_read in rw c.before.before.answered.given.1 c.is-count.ensures)

@@ -4,8 +4,8 @@ use Rattle.verdicts.specs.Verdicts.{is_written}
 use Rattle.verdicts.proofs.is_written.Statement.{statement}
 use Rattle.verdicts.proofs.is_written.Tie as tie
 
-pub is-written-spec : {M : Type 1} → statement M
-is-written-spec =
+pub is_written_spec : {M : Type 1} → statement M
+is_written_spec =
     tie.close
     (tie.spec (λ c. search rules) (λ c κs. search rules) (λ c. search rules) (λ c κs. search rules)
     (λ c. unfold is_written in rw c.before.before.written.given.1 c.is-count.ensures)

@@ -3,8 +3,8 @@ use borrow.Author.Rules.{rules}
 use Rattle.verdicts.proofs.judged.Statement.{statement}
 use Rattle.verdicts.proofs.judged.Tie as tie
 
-pub judged-spec : {M : Type 1} → statement M
-judged-spec =
+pub judged_spec : {M : Type 1} → statement M
+judged_spec =
     tie.close
     (tie.spec (λ c κs. search rules) (λ c κs. search rules) (λ c κs. search rules)
     (λ c. rw (← c.before.before.is_read.ensures, ← c.before.is-left.ensures) c.compared.ensures))

@@ -57,8 +57,8 @@ returns-2 c =
     let a = at.before.before.before.before.before.before.args in
     none_left a.list.now _ a.said.now at.loop.bits _ (omega arith) ∙ at.loop.invariant
 
-pub read-at-spec : {M : Type 1} → statement M
-read-at-spec =
+pub read_at_spec : {M : Type 1} → statement M
+read_at_spec =
     tie.close
     (tie.spec invariant-loop decreases-loop (λ c κs. search rules) (λ c κs. search rules) (λ c κs. search rules) loop-holds (λ c κs. omega arith)
     (λ c κs. omega arith) (λ c. search rules) returns (λ c. omega arith) (λ c. omega arith) loop-again returns-2)

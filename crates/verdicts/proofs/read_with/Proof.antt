@@ -12,8 +12,8 @@ returns c =
     let parsed = rw (to_z-of_z start.ranges.version) at read.read-exactly.ensures in
     c.judged.ensures ∙ read-judged _ _ _ _ _ start.args.said.now parsed
 
-pub read-with-spec : {M : Type 1} → statement M
-read-with-spec =
+pub read_with_spec : {M : Type 1} → statement M
+read_with_spec =
     tie.close
     (tie.spec (λ c. search rules) (λ c κs. search rules) (λ c. search rules) (λ c κs. search rules) (λ c. search rules) (λ c. search rules)
     returns)

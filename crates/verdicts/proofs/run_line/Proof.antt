@@ -13,8 +13,8 @@ returns-2 c =
     let line = marked.before.before.before.args.line.now in
     c.ask2.ensures ∙ line-parts line marked.next-mark.result marked.next-mark.ensures.0 (omega arith)
 
-pub run-line-spec : {M : Type 1} → statement M
-run-line-spec =
+pub run_line_spec : {M : Type 1} → statement M
+run_line_spec =
     tie.close
     (tie.spec (λ c κs. search rules) (λ c. c.ask.ensures ∙ no_line c.before.before.before.args.line.now c.before.if1.true)
     (λ c κs. search rules) (λ c. search rules) (λ c. search rules) (λ c. search rules) (λ c. search rules) (λ c. search rules)

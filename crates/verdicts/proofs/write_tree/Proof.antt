@@ -15,8 +15,8 @@ returns c =
     let list = part (length a.tree.now / 7 * 15) 86037 0 fresh.fresh-tree.result fresh.fresh-tree.ensures (omega arith) in
     wrote.write-with.ensures ∙ write-fresh a.tree.now a.said.now list
 
-pub write-tree-spec : {M : Type 1} → statement M
-write-tree-spec =
+pub write_tree_spec : {M : Type 1} → statement M
+write_tree_spec =
     tie.close
     (tie.spec (λ c κs. search rules) (λ c. search rules) (λ c. search rules) (λ c. search rules) (λ c. search rules) (λ c κs. search rules)
     returns)

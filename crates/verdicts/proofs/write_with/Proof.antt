@@ -12,7 +12,7 @@ returns c =
     rw (← told.is-written.ensures, ← c.before.holds.ensures) c.compared.ensures
     ∙ write-judged _ _ _ said wrote.write.ensures.0 wrote.write.ensures.1
 
-pub write-with-spec : {M : Type 1} → statement M
-write-with-spec =
+pub write_with_spec : {M : Type 1} → statement M
+write_with_spec =
     tie.close
     (tie.spec (λ c κs. search rules) (λ c κs. search rules) (λ c κs. search rules) (λ c κs. search rules) (λ c. search rules) returns)

@@ -31,8 +31,8 @@ returns c =
     let p = c.before.before.requires in
     v.0 ∙ copy_done a.work.now a.from a.tree.now a.n p.0 p.1 c.before.loop.i (omega arith)
 
-pub copy-tree-spec : {M : Type 1} → statement M
-copy-tree-spec =
+pub copy_tree_spec : {M : Type 1} → statement M
+copy_tree_spec =
     tie.close
     (tie.spec invariant-loop decreases-loop (λ c. (refl, omega arith, refl)) (λ c. omega arith) (λ c. omega arith) (λ c. omega arith) (λ c. omega arith)
     (λ c. omega arith) (λ c. omega arith) (λ c. omega arith) loop-again (λ c. c.before.loop.invariant.2) returns)

@@ -75,8 +75,8 @@ returns-2 c =
     let v = c.before.loop.invariant in
     emit-spent a.work.now a.first a.to a.stack v.0 v.1 (omega arith)
 
-pub emit-spec : {M : Type 1} → statement M
-emit-spec =
+pub emit_spec : {M : Type 1} → statement M
+emit_spec =
     tie.close
     (tie.spec invariant-loop decreases-loop loop-holds (λ c. omega arith) (λ c. c.before.before.loop.invariant.1.progress.long) returns
     (λ c κs. let t = turn c.before in omega (arith, t.0.slot, t.0.low, t.0.high, t.0.node.room, t.1)) next-of-requires

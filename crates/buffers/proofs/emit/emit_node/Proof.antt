@@ -15,8 +15,8 @@ returns c =
     (rw count.before.first_of.ensures at count.count-chain.ensures)
     (rw (made.token.ensures, token.token-of.ensures) at laid.lay-node.ensures)
 
-pub emit-node-spec : {M : Type 1} → statement M
-emit-node-spec =
+pub emit_node_spec : {M : Type 1} → statement M
+emit_node_spec =
     tie.close
     (tie.spec (λ c κs. search rules) (λ c κs. search rules)
     (λ c κs. rw c.first_of.ensures c.before.before.before.before.before.requires.children) (λ c κs. search rules)

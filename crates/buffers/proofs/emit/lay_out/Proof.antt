@@ -29,8 +29,8 @@ returns c =
     lay_done e.before.before.before.before.before.before.requires (rw (at, e.before.stack_of.ensures) at e.emit.ensures)
     (rw at at c.before.before.copy-tree.ensures)
 
-pub lay-out-spec : {M : Type 1} → statement M
-lay-out-spec =
+pub lay_out_spec : {M : Type 1} → statement M
+lay_out_spec =
     tie.close
     (tie.spec (λ c κs. search rules) (λ c κs. search rules) emit-requires mul-copy-tree copy-tree-requires (λ c. search rules)
     (λ c. search rules) returns)

@@ -10,8 +10,8 @@ returns-3 c =
     let low = c.before in
     back refl low.before.before.if1.true low.before.if2.false low.if3.false
 
-pub node-after-spec : {M : Type 1} → statement M
-node-after-spec =
+pub node_after_spec : {M : Type 1} → statement M
+node_after_spec =
     tie.close
     (tie.spec (λ c. over refl c.before.if1.true c.if2.true)
     (λ c. finish refl c.before.before.if1.true c.before.if2.false c.if3.true) (λ c. search rules) (λ c. search rules)

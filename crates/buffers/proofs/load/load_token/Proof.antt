@@ -17,8 +17,8 @@ returns c =
     (rw (stored.of.ensures, token.at.ensures) at laid.set-leaf.ensures)
     (rw token.at.ensures at classes.before.operator-bits.ensures) classes.class.ensures
 
-pub load-token-spec : {M : Type 1} → statement M
-load-token-spec =
+pub load_token_spec : {M : Type 1} → statement M
+load_token_spec =
     tie.close
     (tie.spec (λ c. search rules) (λ c κs. search rules) (λ c. search rules) (λ c κs. search rules) (λ c κs. search rules)
     (λ c κs. search rules) (λ c κs. search rules) (λ c κs. search rules) (λ c. search rules) (λ c. search rules) (λ c. search rules)

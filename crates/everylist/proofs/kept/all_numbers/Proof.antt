@@ -27,8 +27,8 @@ returns-2 : tie.Need-returns-2 invariant-loop decreases-loop
 returns-2 c =
     let at = c.before in numbers-all at.before.args.words.now at.loop.i at.loop.invariant.1 (omega arith)
 
-pub all-numbers-spec : {M : Type 1} → statement M
-all-numbers-spec =
+pub all_numbers_spec : {M : Type 1} → statement M
+all_numbers_spec =
     tie.close
     (tie.spec invariant-loop decreases-loop (λ c. (omega arith, refl)) (λ c. omega arith) (λ c. omega arith) returns (λ c. omega arith)
     (λ c. omega arith) loop-again returns-2)

@@ -40,8 +40,8 @@ returns-2 c =
     let chunk = at.before.before.args.chunk.now in
     numbers-all (words_in chunk) at.loop.i at.loop.invariant.2 (omega (arith, words_count chunk))
 
-pub fine-words-spec : {M : Type 1} → statement M
-fine-words-spec =
+pub fine_words_spec : {M : Type 1} → statement M
+fine_words_spec =
     tie.close
     (tie.spec invariant-loop decreases-loop (λ c. (omega arith, refl, refl)) (λ c. omega arith) (λ c. omega arith) (λ c. omega arith) (λ c. omega arith)
     (λ c. omega arith) (λ c. omega arith) (λ c. omega arith) (λ c. omega arith) (λ c κs. tt) returns (λ c. omega arith) (λ c. omega arith)

@@ -78,8 +78,8 @@ returns-6 c =
     decided counted none
     (counts-told _ _ c.enum_told.given.0.0 (ap counted_of (sym c.enum_told.given.1) ∙ counted.count.ensures)).unrefused
 
-pub kept-fault-spec : {M : Type 1} → statement M
-kept-fault-spec =
+pub kept_fault_spec : {M : Type 1} → statement M
+kept_fault_spec =
     tie.close
     (tie.spec (λ c. let a = c.before.before.args in not-whole a.bytes a.words.now a.fine c.if1.true) returns-2
     (λ c κs. search needs) slice-aggregate-all-numbers (λ c κs. search needs) returns-3 returns-4 (λ c. search needs)

@@ -18,8 +18,8 @@ returns c =
       fine = c.before.fine-words.ensures ∙ sym (ap (λ (b : Bool). b && words) c.if1.true);
     }
 
-pub read-on-spec : {M : Type 1} → statement M
-read-on-spec =
+pub read_on_spec : {M : Type 1} → statement M
+read_on_spec =
     tie.close
     (tie.spec (λ c κs. search rules) (λ c. search rules) (λ c. search rules) (λ c κs. search rules) (λ c. search rules) (λ c. search rules)
     returns (λ c. search rules) (λ c. search rules))

@@ -42,8 +42,8 @@ same_length c =
     let read = c.before.before.before in
     let at = read.before.before.before in read.read-on.auto.1.0 ∙ (at.loop.invariant.0 ∙ sym at.before.before.requires)
 
-pub read-rest-spec : {M : Type 1} → statement M
-read-rest-spec =
+pub read_rest_spec : {M : Type 1} → statement M
+read_rest_spec =
     tie.close
     (tie.spec invariant-loop decreases-loop loop-holds (λ c. search rules) (λ c κs. search rules) (λ c. search rules) same_length
     (λ c. came c.before.before.before) (λ c. search rules) loop-again

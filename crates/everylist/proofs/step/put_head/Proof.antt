@@ -50,8 +50,8 @@ returns c =
     head_done a.list.now at.loop.i a.tokens (omega arith) at.before.before.before.put-bytes.ensures at.loop.invariant.2
     c.before.before.put-bytes2.ensures
 
-pub put-head-spec : {M : Type 1} → statement M
-put-head-spec =
+pub put_head_spec : {M : Type 1} → statement M
+put_head_spec =
     tie.close
     (tie.spec invariant-loop decreases-loop (λ c. search rules) (λ c κs. search rules)
     (λ c. unfold letters_in spaced_out in (omega arith, refl, wrote_none _ _)) (λ c. omega arith) (λ c. omega arith) (λ c. omega arith)

@@ -79,8 +79,8 @@ returns-2 c =
     (to_z w16 (of_z w16 version.result)) (ap listed_of (sym listed.1) ∙ (asked found).0) (asked found).1
     (to_z-of_z {w = w16} {z = version.result} (record { sfits = version.type-inv }) ∙ version.ensures)) c.before.before.put-text.ensures
 
-pub put-list-spec : {M : Type 1} → statement M
-put-list-spec =
+pub put_list_spec : {M : Type 1} → statement M
+put_list_spec =
     tie.close
     (tie.spec (λ c κs. search rules) (λ c. search rules) (λ c κs. search rules) sub-list-at part-list-at-start (λ c. search rules)
     (λ c κs. search rules) (λ c. search rules) (λ c. search rules) returns (λ c. search rules) version-of-requires (λ c. search rules)

@@ -20,5 +20,5 @@ returns-2 c =
     stepped a.out.now c.before.before.put-answer.new.0 _
     (refused-first a.number a.position (kept 0 [] true) (replicate 1 0) (replicate 1 0) (omega arith)) put
 
-pub put-refusal-spec : {M : Type 1} → statement M
-put-refusal-spec = tie.close (tie.spec returns (λ c. search rules) (λ c. search rules) (λ c κs. search rules) (λ c. search rules) returns-2)
+pub put_refusal_spec : {M : Type 1} → statement M
+put_refusal_spec = tie.close (tie.spec returns (λ c. search rules) (λ c. search rules) (λ c κs. search rules) (λ c. search rules) returns-2)

@@ -10,5 +10,5 @@ returns c =
     let put = c.before.before in
     let blank = put.before.before.before.before in wrote_then (omega arith) blank.put-bytes.ensures put.put-decimal.ensures
 
-pub put-spaced-spec : {M : Type 1} → statement M
-put-spaced-spec = tie.close (tie.spec (λ c. search rules) (λ c κs. search rules) (λ c κs. search rules) (λ c. search rules) returns)
+pub put_spaced_spec : {M : Type 1} → statement M
+put_spaced_spec = tie.close (tie.spec (λ c. search rules) (λ c κs. search rules) (λ c κs. search rules) (λ c. search rules) returns)

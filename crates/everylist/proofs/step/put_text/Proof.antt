@@ -52,8 +52,8 @@ returns c =
           (replicate 16 0) told.0 told.1.0 told.1.1.0 put.1,
     )
 
-pub put-text-spec : {M : Type 1} → statement M
-put-text-spec =
+pub put_text_spec : {M : Type 1} → statement M
+put_text_spec =
     tie.close
     (tie.spec (λ c κs. search rules) (λ c. search rules) slice-aggregate-read-list (λ c. search rules) (λ c. search rules)
     (λ c. search rules) read-list-requires (λ c. search rules) (λ c. search rules) put-answer-requires (λ c. search rules) returns)

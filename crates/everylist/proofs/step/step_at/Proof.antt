@@ -31,8 +31,8 @@ returns-2 c =
     (on_step a.bytes a.words.now a.fine a.position
     (ap fault_of (sym put.before.before.enum_told.given.1) ∙ judged.kept-fault.ensures)) put.put-list.ensures
 
-pub step-at-spec : {M : Type 1} → statement M
-step-at-spec =
+pub step_at_spec : {M : Type 1} → statement M
+step_at_spec =
     tie.close
     (tie.spec (λ c κs. search rules) (λ c. search rules) (λ c κs. search rules) (λ c. search rules) put-list-requires (λ c. search rules)
     returns (λ c. search rules) returns-2)

@@ -38,8 +38,8 @@ returns-4 c =
     let step = c.before.before.before.before.before.step in
     advanced-fail (turned-at step.result _ c.before.stepped4.given.1 step.ensures)
 
-pub advance-spec : {M : Type 1} → statement M
-advance-spec =
+pub advance_spec : {M : Type 1} → statement M
+advance_spec =
     tie.close
     (tie.spec (λ c κs. advance-can-turn c.before.before.requires) (λ c. search rules) (λ c. search rules) descend-requires
     (λ c. search rules) close-requires (λ c. search rules) (λ c. search rules) returns (λ c. search rules) returns-2 (λ c. search rules)

@@ -15,8 +15,8 @@ returns-2 c =
 returns-3 : tie.Need-returns-3
 returns-3 c = begun-as c.before.before.before.args.pass c.begun.result c.before.match.keys3 c.begun.ensures
 
-pub begin-spec : {M : Type 1} → statement M
-begin-spec =
+pub begin_spec : {M : Type 1} → statement M
+begin_spec =
     tie.close
     (tie.spec (λ c κs. begin-can-start c.before.before.requires) (λ c. search rules) (λ c κs. search rules) (λ c κs. search rules) returns
     returns-2 returns-3)

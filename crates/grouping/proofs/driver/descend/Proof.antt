@@ -24,8 +24,8 @@ returns c =
     (subst (λ (x : ℕ). Opened push.new.0 s.args.item x s.args.waiting.pass inner.result inner.new.0)
     push.ensures.past inner.ensures)
 
-pub descend-spec : {M : Type 1} → statement M
-descend-spec =
+pub descend_spec : {M : Type 1} → statement M
+descend_spec =
     tie.close
     (tie.spec (λ c κs. search rules) (λ c κs. descend-can-push c.before.before.before.before.requires) open-requires (λ c. search rules)
     returns)

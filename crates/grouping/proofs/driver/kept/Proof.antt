@@ -8,8 +8,8 @@ returns c = let s = c.before.before.before.before.before in
     keep-resumed _ _ s.args.list c.before.before.keep.result s.args.pass s.args.item s.requires.0 s.requires.1
     c.before.before.keep.ensures.0 c.before.before.keep.ensures.1
 
-pub kept-spec : {M : Type 1} → statement M
-kept-spec =
+pub kept_spec : {M : Type 1} → statement M
+kept_spec =
     tie.close
     (tie.spec (λ c κs. let s = c.before.before in keep-room s.args.list s.args.pass s.requires.0 s.requires.1) (λ c. search rules)
     returns)

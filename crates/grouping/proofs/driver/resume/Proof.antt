@@ -45,8 +45,8 @@ returns-3 c =
     resumed-by s.args.walk.list s.args.walk.pass _ c.before.before.before.before.before.pass2.given.1
     c.before.before.resume.ensures
 
-pub resume-spec : {M : Type 1} → statement M
-resume-spec =
+pub resume_spec : {M : Type 1} → statement M
+resume_spec =
     tie.close
     (tie.spec (λ c. search rules) resume-array-requires (λ c. search rules) keep-right-requires (λ c. search rules) resume-requires
     kept-requires (λ c. search rules) returns (λ c. search rules) returns-2 (λ c. search rules) returns-3 (λ c. search rules)

@@ -45,8 +45,8 @@ returns-3 c =
     turned-token (left-stands _ s.args.list s.args.pass s.requires.1 c.before.before.token.ensures.turned) sought
     c.before.before.before.before.before.found3.given.1
 
-pub seek-spec : {M : Type 1} → statement M
-seek-spec =
+pub seek_spec : {M : Type 1} → statement M
+seek_spec =
     tie.close
     (tie.spec (λ c κs. search rules) next-token-requires (λ c. search rules) (λ c κs. search rules) (λ c. search rules)
     (λ c κs. search rules) (λ c. search rules) token-requires (λ c. search rules) returns (λ c. search rules) returns-2 (λ c. search rules)

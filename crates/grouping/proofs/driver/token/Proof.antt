@@ -37,8 +37,8 @@ returns-6 c =
     token-kept c.before.before.before.before.before.before.before.args.pass
     c.before.before.before.before.before.match.keys6 kept.1 kept.0 c.on.ensures
 
-pub token-spec : {M : Type 1} → statement M
-token-spec =
+pub token_spec : {M : Type 1} → statement M
+token_spec =
     tie.close
     (tie.spec (λ c. search rules) (λ c κs. search rules) (λ c. search rules) (λ c κs. search rules) (λ c. search rules)
     (λ c κs. search rules) (λ c. search rules) (λ c κs. search rules) (λ c. search rules) (λ c κs. search rules) (λ c κs. search rules)

@@ -32,8 +32,8 @@ returns-3 c =
     c.before.before.before.if2.false
     (sym c.before.operator-of.ensures ∙ c.if3.false)
 
-pub ends-with-semicolon-spec : {M : Type 1} → statement M
-ends-with-semicolon-spec =
+pub ends_with_semicolon_spec : {M : Type 1} → statement M
+ends_with_semicolon_spec =
     tie.close
     (tie.spec (λ c κs. search rules) returns
     (λ c. let g = c.before.before.before.before.requires in omega (arith, g.based, g.room, g.small)) (λ c. omega (arith, c.if2.false))

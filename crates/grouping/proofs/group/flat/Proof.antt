@@ -30,8 +30,8 @@ returns-3 c =
     c.before.before.before.before.before.before.before.before.before.before.before.before.match.keys1 x.ensures
     (joined_items y.result c.before.before.before.before.before.joined.given.1 y.ensures) z.result z.ensures
 
-pub flat-spec : {M : Type 1} → statement M
-flat-spec =
+pub flat_spec : {M : Type 1} → statement M
+flat_spec =
     tie.close
     (tie.spec (λ c κs. search rules) (λ c. search rules) (λ c. search rules) returns
     (λ c κs. group-joins c.before.before.before.before.before.before.requires) (λ c. search rules) (λ c. search rules) returns-2

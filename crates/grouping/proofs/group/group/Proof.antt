@@ -44,8 +44,8 @@ returns-4 c =
     c.before.before.before.before.before.before.before.before.before.before.before.before.before.before.before.before.ranges.version)
     c.before.before.levels.ensures)
 
-pub group-spec : {M : Type 1} → statement M
-group-spec =
+pub group_spec : {M : Type 1} → statement M
+group_spec =
     tie.close
     (tie.spec (λ c κs. search rules) (λ c. search rules) (λ c. search rules) (λ c. search rules) (λ c. search rules) give-children-requires
     levels-requires (λ c. search rules) returns (λ c. search rules) returns-2 (λ c. search rules) returns-3 (λ c. search rules) returns-4)

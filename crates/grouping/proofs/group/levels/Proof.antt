@@ -106,8 +106,8 @@ returns-3 c =
     levelled-at (to_z-of_z c.before.before.before.before.ranges.version)
     (record { to = λ g l. level-roots (v.1 g l) (omega (arith, v.2, c.loop-test.false)); long = v.3 })
 
-pub levels-spec : {M : Type 1} → statement M
-levels-spec =
+pub levels_spec : {M : Type 1} → statement M
+levels_spec =
     tie.close
     (tie.spec invariant-loop decreases-loop (λ c κs. search rules) loop-holds (λ c. search rules) (λ c. search rules) (λ c. search rules)
     (λ c κs. search rules) run-choice-requires (λ c. search rules) add-k loop-less loop-again (λ c. search rules) same_length returns

@@ -13,8 +13,8 @@ returns c =
     (sym (c.before.before.before.before.before.contains.ensures ∙ one-used _ _) ∙ c.before.before.before.before.if1.true)
     c.before.before.members.ensures
 
-pub members-if-used-spec : {M : Type 1} → statement M
-members-if-used-spec =
+pub members_if_used_spec : {M : Type 1} → statement M
+members_if_used_spec =
     tie.close
     (tie.spec (λ c κs. search rules) (λ c κs. search rules) (λ c. search rules) returns
     (λ c. unfold runs in joined-unused (sym (c.before.contains.ensures ∙ one-used _ _) ∙ c.if1.false)))

@@ -35,8 +35,8 @@ returns-3 c =
     c.before.intersects.ensures ∙ c.if1.false in
     chosen-run s.args.choice _ choice.given.1 (gate-shut (chosen-can-run s.args.choice _ choice.given.1 s.requires) none)
 
-pub run-choice-spec : {M : Type 1} → statement M
-run-choice-spec =
+pub run_choice_spec : {M : Type 1} → statement M
+run_choice_spec =
     tie.close
     (tie.spec (λ c. search rules) (λ c. search rules) classes-of-requires (λ c κs. search rules) (λ c κs. search rules) run-requires
     (λ c. search rules) returns returns-2 (λ c. search rules) returns-3)

@@ -11,8 +11,8 @@ returns c =
     sectioned-used (sym c.before.before.before.before.before.has_some.ensures ∙ c.before.before.before.before.if1.true)
     c.before.before.sections.ensures.0
 
-pub sections-if-used-spec : {M : Type 1} → statement M
-sections-if-used-spec =
+pub sections_if_used_spec : {M : Type 1} → statement M
+sections_if_used_spec =
     tie.close
     (tie.spec (λ c κs. search rules) (λ c κs. search rules) (λ c. search rules) returns
     (λ c. unfold runs in sectioned-unused (sym c.before.has_some.ensures ∙ c.if1.false)))

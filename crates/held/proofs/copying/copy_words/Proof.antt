@@ -29,8 +29,8 @@ returns c =
     let here = c.before.loop in
     here.invariant.2 ∙ ap (λ (l : List ℕ). laid_at a.at l a.to.now) (take_all here.i a.from.now (omega arith))
 
-pub copy-words-spec : {M : Type 1} → statement M
-copy-words-spec =
+pub copy_words_spec : {M : Type 1} → statement M
+copy_words_spec =
     tie.close
     (tie.spec invariant-loop decreases-loop (λ c. (omega arith, refl, none-laid _ _)) (λ c. omega arith) (λ c. omega arith) (λ c. omega arith)
     (λ c. omega arith) (λ c. omega arith) (λ c. omega arith) (λ c. omega arith) loop-again (λ c. c.before.loop.invariant.1) returns)

@@ -65,8 +65,8 @@ returns-3 c =
     let start = spliced.before.before.before.before.before.before.before.before.before.before in
     (rw (to_z-of_z start.ranges.version, laid spliced) at read.read-own.ensures, λ accepts. spliced.splice.ensures.1)
 
-pub read-edited-spec : {M : Type 1} → statement M
-read-edited-spec =
+pub read_edited_spec : {M : Type 1} → statement M
+read_edited_spec =
     tie.close
     (tie.spec returns sub-kept sub-if2 returns-2 (λ c κs. room c.before) (λ c. within c.before.before)
     (λ c. sym (length-take-le _ _ (within c.before.before.before))) (λ c κs. search rules) (λ c. search rules) (λ c. search rules)

@@ -68,8 +68,8 @@ returns c =
           second.copy-words2.ensures third.copy-words3.ensures,
     )
 
-pub splice-spec : {M : Type 1} → statement M
-splice-spec =
+pub splice_spec : {M : Type 1} → statement M
+splice_spec =
     tie.close
     (tie.spec (λ c. search rules) (λ c. search rules) (λ c. search rules)
     (λ c. let start = c.before.before.before in omega (arith, long start, start.requires.room))

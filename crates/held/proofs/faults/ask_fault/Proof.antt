@@ -12,5 +12,5 @@ returns c =
     ask-first (state a.held a.words.now) a.place a.removed claimed.claim-fault.ensures edited.edit-fault.ensures
     c.first.ensures
 
-pub ask-fault-spec : {M : Type 1} → statement M
-ask-fault-spec = tie.close (tie.spec (λ c κs. search rules) (λ c κs. search rules) (λ c κs. search rules) returns)
+pub ask_fault_spec : {M : Type 1} → statement M
+ask_fault_spec = tie.close (tie.spec (λ c κs. search rules) (λ c κs. search rules) (λ c κs. search rules) returns)

@@ -7,8 +7,8 @@ use Rattle.held.proofs.faults.claim_fault.Tie as tie
 abbrev the-state : tie.Start → State
 the-state start = state start.args.held start.args.words.now
 
-pub claim-fault-spec : {M : Type 1} → statement M
-claim-fault-spec =
+pub claim_fault_spec : {M : Type 1} → statement M
+claim_fault_spec =
     tie.close
     (tie.spec (λ c. claim-short (the-state c.before) c.if1.true)
     (λ c. claim-many (the-state c.before.before.before) c.before.before.if1.false c.if2.true)

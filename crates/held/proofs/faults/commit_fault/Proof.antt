@@ -18,8 +18,8 @@ returns c =
     seen.seen-fault.ensures edited.edit-fault.ensures last.count-fault.ensures late.first.ensures
     behind.first2.ensures c.first3.ensures
 
-pub commit-fault-spec : {M : Type 1} → statement M
-commit-fault-spec =
+pub commit_fault_spec : {M : Type 1} → statement M
+commit_fault_spec =
     tie.close
     (tie.spec (λ c κs. search rules) (λ c κs. search rules) (λ c κs. search rules) (λ c κs. search rules) (λ c κs. search rules)
     (λ c κs. search rules) (λ c κs. search rules) returns)

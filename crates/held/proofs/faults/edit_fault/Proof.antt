@@ -12,7 +12,7 @@ returns-3 c =
     let a = c.before.before.before.before.args in
     edit-right a.held a.place a.removed c.before.before.if1.false c.if2.false
 
-pub edit-fault-spec : {M : Type 1} → statement M
-edit-fault-spec =
+pub edit_fault_spec : {M : Type 1} → statement M
+edit_fault_spec =
     tie.close
     (tie.spec (λ c. let a = c.before.before.args in place-past a.held a.place a.removed c.if1.true) returns-2 returns-3)

@@ -14,8 +14,8 @@ copy-words-requires c κs =
     let a = start.args in
     omega (arith, length-take-le (5 * a.tokens) a.list.now start.requires.words, start.requires.room)
 
-pub keep-words-spec : {M : Type 1} → statement M
-keep-words-spec =
+pub keep_words_spec : {M : Type 1} → statement M
+keep_words_spec =
     tie.close
     (tie.spec (λ c. search rules) (λ c. sym (length-take-le _ _ c.before.before.before.requires.words)) copy-words-requires
     (λ c. search rules) (λ c. c.before.before.copy-words.ensures ∙ laid-front _ _))

@@ -4,8 +4,8 @@ use Rattle.held.specs.Editing.{kept_tokens}
 use Rattle.held.proofs.keeping.kept_tokens.Statement.{statement}
 use Rattle.held.proofs.keeping.kept_tokens.Tie as tie
 
-pub kept-tokens-spec : {M : Type 1} → statement M
-kept-tokens-spec =
+pub kept_tokens_spec : {M : Type 1} → statement M
+kept_tokens_spec =
     tie.close
     (tie.spec (λ c. search rules) (λ c. search rules) (λ c. search rules) (λ c. unfold kept_tokens in search rules)
     (λ c. unfold kept_tokens in search rules) (λ c. unfold kept_tokens in search rules))

@@ -24,5 +24,5 @@ returns c =
       edits = add-one a.held.edits i;
     })
 
-pub with-edit-spec : {M : Type 1} → statement M
-with-edit-spec = tie.close (tie.spec (λ c. search rules) (λ c. search rules) (λ c. search rules) returns)
+pub with_edit_spec : {M : Type 1} → statement M
+with_edit_spec = tie.close (tie.spec (λ c. search rules) (λ c. search rules) (λ c. search rules) returns)

@@ -11,8 +11,8 @@ known : (s : tie.Start) {r : Answer} → s.args.answer ≡ r
     → kept_outcome (told_of r) s.args.held ≡ kept_outcome (told_of s.args.answer) s.args.held
 known s e = ap (λ (a : Answer). kept_outcome (told_of a) s.args.held) (sym e)
 
-pub with-held-spec : {M : Type 1} → statement M
-with-held-spec =
+pub with_held_spec : {M : Type 1} → statement M
+with_held_spec =
     tie.close
     (tie.spec (λ c. search rules) (λ c. search rules) (λ c. search rules)
     (λ c. unfold kept_outcome in known c.before.before.before c.before.answer.given.1)

@@ -18,5 +18,5 @@ returns-2 c =
     c.intersects.ensures ∙ ap (λ (x : ℕ). shares x a.classes.0) c.before.classes-of.ensures
     ∙ inner-node _ a.item a.classes.0 (sym test.before.is_leaf.ensures ∙ test.if1.false)
 
-pub is-inner-spec : {M : Type 1} → statement M
-is-inner-spec = tie.close (tie.spec (λ c κs. search rules) returns (λ c κs. search rules) (λ c κs. search rules) returns-2)
+pub is_inner_spec : {M : Type 1} → statement M
+is_inner_spec = tie.close (tie.spec (λ c κs. search rules) returns (λ c κs. search rules) (λ c κs. search rules) returns-2)

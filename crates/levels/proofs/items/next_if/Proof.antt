@@ -22,8 +22,8 @@ returns-3 c =
     let a = test.before.before.before.args in
     next-if-other _ a.list a.op test.if1.false (λ e. c.if2.false (c.before.operator-of.ensures ∙ e))
 
-pub next-if-spec : {M : Type 1} → statement M
-next-if-spec =
+pub next_if_spec : {M : Type 1} → statement M
+next_if_spec =
     tie.close
     (tie.spec (λ c. let a = c.before.before.before.args in next-if-end _ a.list a.op c.if1.true) (λ c. search rules)
     (λ c. search rules) (λ c. search rules) operator-of-requires returns-2 returns-3)

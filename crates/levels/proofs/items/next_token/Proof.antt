@@ -78,8 +78,8 @@ loop-again c =
 returns-3 : tie.Need-returns-3 invariant-loop decreases-loop
 returns-3 c = sought-none c.before.before.loop.invariant.0 c.before.loop-test.false c.moved2.result c.moved2.ensures
 
-pub next-token-spec : {M : Type 1} → statement M
-next-token-spec =
+pub next_token_spec : {M : Type 1} → statement M
+next_token_spec =
     tie.close
     (tie.spec invariant-loop decreases-loop (λ c. (seek-start c.before.args.list c.before.args.classes.0 c.before.requires, refl, refl))
     (λ c. omega (arith, reading c.before c.loop-test.true)) (λ c. omega (arith, reading c.before c.loop-test.true))

@@ -53,7 +53,7 @@ returns-2 c =
     ∙ (ap (λ (v : Verdict). behind_by v a.number a.place) c.before.nesting.ensures
     ∙ behind-by _ (too_deep a.limit-to (tokens_of a.list.now)) a.number a.place))
 
-pub behind-spec : {M : Type 1} → statement M
-behind-spec =
+pub behind_spec : {M : Type 1} → statement M
+behind_spec =
     tie.close
     (tie.spec (λ c κs. search rules) (λ c. search rules) (λ c. search rules) nesting-requires (λ c κs. search rules) returns returns-2)

@@ -16,5 +16,5 @@ returns-2 c =
     let a = c.before.before.args in
     sym (ap (λ (f : Accepted). behind_by (verdict_of f) a.number a.place) c.enum-told2.given.1)
 
-pub behind-as-spec : {M : Type 1} → statement M
-behind-as-spec = tie.close (tie.spec (λ c. search rules) (λ c. search rules) returns returns-2)
+pub behind_as_spec : {M : Type 1} → statement M
+behind_as_spec = tie.close (tie.spec (λ c. search rules) (λ c. search rules) returns returns-2)

@@ -46,8 +46,8 @@ returns-2 c =
     long-entered (given (entry at)) (omega (arith, lifted.before.before.before.before.before.before.if1.false)) (lifts lifted)
     at.shorter.ensures c.tell.ensures
 
-pub lift-entry-spec : {M : Type 1} → statement M
-lift-entry-spec =
+pub lift_entry_spec : {M : Type 1} → statement M
+lift_entry_spec =
     tie.close
     (tie.spec (λ c κs. search rules) (λ c κs. search rules) returns (λ c κs. search rules) tell-requires (λ c. search rules)
     (λ c. search rules) (λ c. search rules) (λ c. search rules) (λ c. search rules) returns-2)

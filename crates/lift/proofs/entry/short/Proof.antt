@@ -30,5 +30,5 @@ returns-2 c =
     (ap (λ (o : Option Refusal). or_turned o (turned_back 15 0))
     (refused_as _ _ _ (row_of found) (sym (ap verdict_of c.before.found.given.1) ∙ checked found)))
 
-pub short-spec : {M : Type 1} → statement M
-short-spec = tie.close (tie.spec (λ c κs. search rules) (λ c. search rules) (λ c. search rules) returns returns-2)
+pub short_spec : {M : Type 1} → statement M
+short_spec = tie.close (tie.spec (λ c κs. search rules) (λ c. search rules) (λ c. search rules) returns returns-2)

@@ -37,8 +37,8 @@ returns-4 c =
     (lot_of (too_deep a.limit-to (tokens_of a.list.now)) (lift_told r)))
     c.before.before.outcome4.given.1)
 
-pub tell-spec : {M : Type 1} → statement M
-tell-spec =
+pub tell_spec : {M : Type 1} → statement M
+tell_spec =
     tie.close
     (tie.spec (λ c. search rules) (λ c. search rules) (λ c. search rules) (λ c. search rules) (λ c κs. search rules) returns returns-2
     returns-3 returns-4)

@@ -15,5 +15,5 @@ returns c =
     ∙ ap (λ (n : ℕ). verdict (length a.list.now / 5) (refusal (call_of a.list.now a.sizes (record { low = 0; high = 0 }) n)))
     c.before.first-limit.ensures
 
-pub turned-spec : {M : Type 1} → statement M
-turned-spec = tie.close (tie.spec (λ c κs. search rules) (λ c κs. search rules) returns)
+pub turned_spec : {M : Type 1} → statement M
+turned_spec = tie.close (tie.spec (λ c κs. search rules) (λ c κs. search rules) returns)

@@ -16,8 +16,8 @@ returns-4 c = rw (c.before.enum-told3.given.1, c.before.before.before.one_more.e
 returns-5 : tie.Need-returns-5
 returns-5 c = rw (c.before.enum-told4.given.1, c.before.before.before.one_more.ensures, c.one-more5.ensures) refl
 
-pub tallied-spec : {M : Type 1} → statement M
-tallied-spec =
+pub tallied_spec : {M : Type 1} → statement M
+tallied_spec =
     tie.close
     (tie.spec (λ c κs. search rules) (λ c. search rules) (λ c. search rules) (λ c κs. search rules) (λ c. search rules)
     (λ c κs. search rules) (λ c. search rules) (λ c κs. search rules) (λ c. search rules) (λ c κs. search rules)

@@ -26,8 +26,8 @@ returns-2 c =
     ∙ ap (λ (s : State). fed s (take (length chunk - whole) (drop whole chunk))) words.feed-words.ensures
     ∙ chunk-parts (state_of start.args.run start.args.list.now) chunk whole (omega arith)
 
-pub feed-spec : {M : Type 1} → statement M
-feed-spec =
+pub feed_spec : {M : Type 1} → statement M
+feed_spec =
     tie.close
     (tie.spec (λ c. search rules) (λ c. search rules) (λ c. search rules) (λ c. search rules) (λ c κs. search rules) (λ c. search rules)
     (λ c. search rules) (λ c. search rules)

@@ -51,8 +51,8 @@ returns c =
     let bytes = c.before.before.before.before.before.before.before.before.args.bytes.now in
     sym (fed-end (state_of at.then at.list) bytes at.i (omega arith)) ∙ at.invariant.3
 
-pub feed-bytes-spec : {M : Type 1} → statement M
-feed-bytes-spec =
+pub feed_bytes_spec : {M : Type 1} → statement M
+feed_bytes_spec =
     tie.close
     (tie.spec invariant-loop decreases-loop loop-holds (λ c. omega arith)
     (λ c κs. let at = c.before.before.before.before.before.before.before.loop in (at.invariant.1, at.invariant.2)) add-i (λ c. omega arith)

@@ -67,8 +67,8 @@ returns c =
     let at = c.before.loop in
     sym (fed-end (state_of at.then at.list) start.args.bytes.now at.at (omega (arith, start.requires.0.1))) ∙ at.invariant.6
 
-pub feed-words-spec : {M : Type 1} → statement M
-feed-words-spec =
+pub feed_words_spec : {M : Type 1} → statement M
+feed_words_spec =
     tie.close
     (tie.spec invariant-loop decreases-loop loop-holds (λ c. omega arith) (λ c. omega arith) (λ c. omega arith) (λ c. omega arith) (λ c. omega arith)
     (λ c. omega arith) (λ c. omega arith) (λ c. omega arith) (λ c κs. search rules) take-word-requires add_at (λ c. omega arith) loop-again

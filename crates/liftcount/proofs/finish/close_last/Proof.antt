@@ -10,7 +10,7 @@ returns c =
     let start = closed.before.before.before.before.before.before in
     rw (to_z-of_z start.ranges.from, to_z-of_z start.ranges.to) at closed.close.ensures
 
-pub close-last-spec : {M : Type 1} → statement M
-close-last-spec =
+pub close_last_spec : {M : Type 1} → statement M
+close_last_spec =
     tie.close
     (tie.spec (λ c. search rules) (λ c. search rules) (λ c. search rules) (λ c. search rules) (λ c κs. search rules) returns)

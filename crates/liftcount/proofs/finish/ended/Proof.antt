@@ -48,8 +48,8 @@ returns-6 c =
     let whole = c.before.before.before.before.if1.false in
     whole-text (state_of a.run a.list.now) (Refused stage.0.0 stage.0.1.0) whole stage.1
 
-pub ended-spec : {M : Type 1} → statement M
-ended-spec =
+pub ended_spec : {M : Type 1} → statement M
+ended_spec =
     tie.close
     (tie.spec (λ c. let a = c.before.before.args in part-text (state_of a.run a.list.now) c.if1.true) (λ c. search rules)
     (λ c. search rules) (λ c. search rules) (λ c. search rules) (λ c κs. search rules) (λ c. search rules) returns-2 returns-3 returns-4

@@ -70,8 +70,8 @@ returns c =
           five.put-number5.ensures,
     )
 
-pub put-counts-spec : {M : Type 1} → statement M
-put-counts-spec =
+pub put_counts_spec : {M : Type 1} → statement M
+put_counts_spec =
     tie.close
     (tie.spec (λ c κs. search rules) put-number-requires-2 put-number-requires-3 put-number-requires-4 put-number-requires-5
     (λ c. search rules) returns)

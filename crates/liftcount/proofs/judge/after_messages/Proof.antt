@@ -4,8 +4,8 @@ use borrow.Author.Rules.{rules}
 use Rattle.liftcount.proofs.judge.after_messages.Statement.{statement}
 use Rattle.liftcount.proofs.judge.after_messages.Tie as tie
 
-pub after-messages-spec : {M : Type 1} → statement M
-after-messages-spec =
+pub after_messages_spec : {M : Type 1} → statement M
+after_messages_spec =
     tie.close
     (tie.spec (λ c. search rules) (λ c. search rules) (λ c. search rules) (λ c. search rules) (λ c. search rules)
     (λ c. rw c.before.second.given.1 refl))

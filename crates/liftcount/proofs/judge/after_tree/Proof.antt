@@ -34,8 +34,8 @@ returns-3 c =
     (ap trees_by (sym c.if2.false ∙ c.before.same-words.ensures)
     ∙ trees-by start.args.n second.0.0 start.args.tree.now start.args.again.now c.before.before.if1.false)
 
-pub after-tree-spec : {M : Type 1} → statement M
-after-tree-spec =
+pub after_tree_spec : {M : Type 1} → statement M
+after_tree_spec =
     tie.close
     (tie.spec (λ c. search rules) returns (λ c. search rules) same-words-requires returns-2 (λ c. search rules) (λ c. search rules)
     returns-3 (λ c. search rules) (λ c. rw c.before.second2.given.1 refl))

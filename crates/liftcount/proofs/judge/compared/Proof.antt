@@ -9,8 +9,8 @@ after-tree-requires c κs =
     let start = c.before.before.before.before.before in
     (rw c.before.first.given.1 at start.requires.0, start.requires.1)
 
-pub compared-spec : {M : Type 1} → statement M
-compared-spec =
+pub compared_spec : {M : Type 1} → statement M
+compared_spec =
     tie.close
     (tie.spec (λ c. search rules) after-tree-requires (λ c. search rules) (λ c κs. search rules) (λ c. search rules)
     (λ c. rw c.before.before.first.given.1 c.after-tree.ensures) (λ c. search rules)

@@ -61,8 +61,8 @@ returns-3 c =
     rw (open-fault a.words a.list.now few.before.if1.false few.if2.false)
     (rw (to_z-of_z start.ranges.from, to_z-of_z start.ranges.to) at twice.read_twice.ensures)
 
-pub judge-spec : {M : Type 1} → statement M
-judge-spec =
+pub judge_spec : {M : Type 1} → statement M
+judge_spec =
     tie.close
     (tie.spec returns returns-2 (λ c. search rules) (λ c. search rules) slice-aggregate-read-twice (λ c. search rules)
     slice-aggregate-read-twice-2 read-twice-requires (λ c. search rules) (λ c. search rules) (λ c. search rules) (λ c. search rules)

@@ -37,8 +37,8 @@ returns c =
     ∙ verdict-told fault (reading_of list _) (reading_of list _) a.tree.now a.again.now
     ∙ (λ i. judged fault (reading_of list (to_z-of_z start.ranges.from i)) (reading_of list (to_z-of_z start.ranges.to i)))
 
-pub read-twice-spec : {M : Type 1} → statement M
-read-twice-spec =
+pub read_twice_spec : {M : Type 1} → statement M
+read_twice_spec =
     tie.close
     (tie.spec (λ c κs. search rules) (λ c κs. search rules) compared-requires (λ c. search rules) (λ c. search rules) (λ c. search rules)
     (λ c. search rules) returns)

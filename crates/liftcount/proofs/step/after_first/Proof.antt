@@ -10,7 +10,7 @@ returns c counts list =
     let version = to_z-of_z (record { sfits = c.version_of.type-inv }) ∙ c.version_of.ensures in
     first-version counts list c.before.before.args.w c.before.if1.true version
 
-pub after-first-spec : {M : Type 1} → statement M
-after-first-spec =
+pub after_first_spec : {M : Type 1} → statement M
+after_first_spec =
     tie.close
     (tie.spec (λ c κs. search rules) returns (λ c counts list. first-fault counts list c.before.args.w c.if1.false))

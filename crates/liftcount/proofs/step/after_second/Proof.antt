@@ -12,8 +12,8 @@ returns c counts list =
     rw (to_z-of_z start.ranges.from)
     (second-version counts list start.args.w start.args.from c.before.if1.true version)
 
-pub after-second-spec : {M : Type 1} → statement M
-after-second-spec =
+pub after_second_spec : {M : Type 1} → statement M
+after_second_spec =
     tie.close
     (tie.spec (λ c κs. search rules) returns
     (λ c counts list. second-fault counts list c.before.args.w c.before.args.from c.if1.false))

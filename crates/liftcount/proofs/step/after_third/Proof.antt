@@ -16,5 +16,5 @@ returns-2 c counts list =
     let start = c.before.before in
     third-fault counts list start.args.w start.args.from start.args.to (λ e. c.if1.false (c.before.kind.ensures ∙ e))
 
-pub after-third-spec : {M : Type 1} → statement M
-after-third-spec = tie.close (tie.spec (λ c κs. search rules) returns returns-2)
+pub after_third_spec : {M : Type 1} → statement M
+after_third_spec = tie.close (tie.spec (λ c κs. search rules) returns returns-2)

@@ -3,5 +3,5 @@ use mathlib.Core.Path.{refl}
 use Rattle.liftcount.proofs.step.after_word.Statement.{statement}
 use Rattle.liftcount.proofs.step.after_word.Tie as tie
 
-pub after-word-spec : {M : Type 1} → statement M
-after-word-spec = tie.close (tie.spec (λ c list. refl))
+pub after_word_spec : {M : Type 1} → statement M
+after_word_spec = tie.close (tie.spec (λ c list. refl))

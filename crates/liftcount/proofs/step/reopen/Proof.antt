@@ -10,8 +10,8 @@ returns-2 c list =
     let start = matched.before.before in
     rw matched.ending2.given.1 (rw (to_z-of_z start.ranges.from, to_z-of_z start.ranges.to) at (c.after-word2.ensures list))
 
-pub reopen-spec : {M : Type 1} → statement M
-reopen-spec =
+pub reopen_spec : {M : Type 1} → statement M
+reopen_spec =
     tie.close
     (tie.spec (λ c. search rules) (λ c κs. search rules) (λ c. search rules) (λ c κs. search rules)
     (λ c list. rw c.before.before.ending.given.1 (c.after-word.ensures list)) returns-2)

@@ -17,8 +17,8 @@ returns-2 c =
     let a = fourth.before.before.before.before.before.before.before.args in
     taken.take-word.ensures ∙ byte-fourth (state_of a.run a.list.now) a.b fourth.if1.false
 
-pub take-byte-spec : {M : Type 1} → statement M
-take-byte-spec =
+pub take_byte_spec : {M : Type 1} → statement M
+take_byte_spec =
     tie.close
     (tie.spec (λ c. search rules) (λ c. search rules) (λ c. search rules) returns (λ c κs. search rules) (λ c. search rules)
     (λ c. search rules) (λ c. search rules) (λ c. search rules) (λ c. search rules) returns-2)

@@ -25,8 +25,8 @@ returns-2 c =
     ∙ ap (λ (e : Ending). after_word (opened_after e a.from a.to a.counts list)) ending
     ∙ ap after_word (reopens a.counts list a.w a.from a.to a.words opens)
 
-pub take-in-list-spec : {M : Type 1} → statement M
-take-in-list-spec =
+pub take_in_list_spec : {M : Type 1} → statement M
+take_in_list_spec =
     tie.close
     (tie.spec (λ c κs. search rules) (λ c κs. λ e. c.before.if1.true (c.before.before.kind.ensures ∙ e)) (λ c. search rules)
     returns (λ c κs. search rules) (λ c κs. search rules) (λ c. search rules) (λ c. search rules) (λ c. search rules) (λ c. search rules)

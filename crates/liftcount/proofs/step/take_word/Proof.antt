@@ -47,8 +47,8 @@ returns-5 c =
     let a = matched.before.before.before.before.before.before.before.before.args in
     rw matched.stage4.given.1 (c.after-word4.ensures a.list.now)
 
-pub take-word-spec : {M : Type 1} → statement M
-take-word-spec =
+pub take_word_spec : {M : Type 1} → statement M
+take_word_spec =
     tie.close
     (tie.spec (λ c. search rules) (λ c κs. search rules) (λ c κs. search rules) (λ c. search rules) (λ c κs. search rules)
     (λ c κs. search rules) (λ c. search rules) (λ c κs. search rules) (λ c κs. search rules) (λ c. search rules) (λ c κs. search rules)

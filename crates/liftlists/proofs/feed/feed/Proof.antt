@@ -163,8 +163,8 @@ returns-2 c =
     let all : take at.i chunk ≡ chunk = take_all at.i chunk (omega (arith, c.loop-test.false, inv.within, inv.whole, c.before.before.before.before.before.before.before.before.before.requires.0.4)) in
     (inv.fine, inv.laid, rw all at inv.goes)
 
-pub feed-spec : {M : Type 1} → statement M
-feed-spec =
+pub feed_spec : {M : Type 1} → statement M
+feed_spec =
     tie.close
     (tie.spec invariant-loop decreases-loop loop-holds (λ c. c.loop.invariant.within) spill-requires (λ c. search rules) (λ c. search rules) same_length
     same-length-2 same-length-3 same-length-4 same-length-5 same-length-6 (λ c. _) shared-slice-read-word-of add-word-of

@@ -14,8 +14,8 @@ returns-2 c =
     let a = c.before.before.before.before.before.args in
     (omega arith, λ later. record { gave = take a.at a.out.now; on = λ rest. refl })
 
-pub spill-spec : {M : Type 1} → statement M
-spill-spec =
+pub spill_spec : {M : Type 1} → statement M
+spill_spec =
     tie.close
     (tie.spec returns (λ c. sym (length-take-le _ _ c.before.before.before.requires.0)) (λ c κs. search rules) returns-2
     (λ c. search rules))

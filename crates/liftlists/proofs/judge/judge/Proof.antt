@@ -48,8 +48,8 @@ returns-2 c =
     (ap (λ (v : ℤ). engine v 4096)
     (to_z-of_z (record { sfits = lifting.before.version-of2.type-inv }) ∙ lifting.before.version-of2.ensures)))
 
-pub judge-spec : {M : Type 1} → statement M
-judge-spec =
+pub judge_spec : {M : Type 1} → statement M
+judge_spec =
     tie.close
     (tie.spec (λ c. not-whole _ _ _ c.if1.true) mul-room add-room (λ c. search rules) slice-relend-prefix-lift slice-aggregate-lift-2
     (λ c κs. search rules) (λ c κs. search rules) (λ c κs. search rules) (λ c κs. search rules) (λ c. search rules) (λ c. search rules)

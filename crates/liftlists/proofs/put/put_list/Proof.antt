@@ -20,5 +20,5 @@ returns c =
     rw (bytes-append (start.args.opener ∷ []) start.args.words.now)
     (wrote_then (omega (arith, start.requires)) first.put_word.ensures put.put-words.ensures)
 
-pub put-list-spec : {M : Type 1} → statement M
-put-list-spec = tie.close (tie.spec (λ c κs. search rules) put-words-requires (λ c. search rules) returns)
+pub put_list_spec : {M : Type 1} → statement M
+put_list_spec = tie.close (tie.spec (λ c κs. search rules) put-words-requires (λ c. search rules) returns)

@@ -37,8 +37,8 @@ loop-again c =
 returns : tie.Need-returns invariant-loop decreases-loop
 returns c = words-all _ c.before.loop.i (omega arith) c.before.loop.invariant.3
 
-pub put-words-spec : {M : Type 1} → statement M
-put-words-spec =
+pub put_words_spec : {M : Type 1} → statement M
+put_words_spec =
     tie.close
     (tie.spec invariant-loop decreases-loop (λ c. unfold bytes_of in (omega arith, refl, omega arith, wrote_none _ _)) (λ c. omega arith)
     (λ c. omega arith) put-word-requires (λ c. omega arith) (λ c. omega arith) loop-again (λ c. c.before.loop.invariant.1) returns)

@@ -31,8 +31,8 @@ returns-2 c =
     rw told.stage.given.1
     (closed.close.ensures.0, rw (closes-last a.to _ _ (version-opens _ h.version) h.kept) closed.close.ensures.1)
 
-pub close-last-spec : {M : Type 1} → statement M
-close-last-spec =
+pub close_last_spec : {M : Type 1} → statement M
+close_last_spec =
     tie.close
     (tie.spec (λ c. search rules) (λ c. search rules) slice-aggregate-close close-requires
     (λ c. unfold lifted_words file_cut carried_all joined_lists bytes_of in rw c.enum_told.given.1 (omega arith, wrote_none _ _))

@@ -57,8 +57,8 @@ returns-3 c =
     (closed-took _ _ a.list.now (kept told) start.requires.0.0 a.w a.to (sym tested.before.kind.ensures ∙ tested.if1.false)
     (omega (arith, start.requires.0.2)) closed.close.ensures.0 closed.close.ensures.1 (passed.pass2.ensures a.to a.list.now))
 
-pub take-word-spec : {M : Type 1} → statement M
-take-word-spec =
+pub take_word_spec : {M : Type 1} → statement M
+take_word_spec =
     tie.close
     (tie.spec (λ c. search rules) (λ c κs. search rules) (λ c. search rules) (λ c κs. search rules) keep-requires (λ c. search rules)
     (λ c. search rules) returns slice-reshare-prefix-close slice-aggregate-close close-requires (λ c κs. search rules) (λ c. search rules)

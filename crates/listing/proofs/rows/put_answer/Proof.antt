@@ -164,8 +164,8 @@ returns-3 c =
           last.ensures,
     )
 
-pub put-answer-spec : {M : Type 1} → statement M
-put-answer-spec =
+pub put_answer_spec : {M : Type 1} → statement M
+put_answer_spec =
     tie.close
     (tie.spec (λ c. search rules) (λ c. search rules) put-bytes-requires put-number-requires put-nodes-requires (λ c. search rules)
     (λ c. search rules) put-bytes-requires-2 put-number-requires-2 put-records-requires (λ c. search rules) (λ c. search rules)

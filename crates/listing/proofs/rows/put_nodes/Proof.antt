@@ -31,8 +31,8 @@ returns c =
     let l = c.before.loop in
     let all : l.i ≡ c.before.before.before.before.args.n = omega arith in rw all at l.invariant.2
 
-pub put-nodes-spec : {M : Type 1} → statement M
-put-nodes-spec =
+pub put_nodes_spec : {M : Type 1} → statement M
+put_nodes_spec =
     tie.close
     (tie.spec invariant-loop decreases-loop (λ c. unfold node_rows in (omega arith, refl, wrote_none _ _)) (λ c. omega arith) put-node-requires
     (λ c. omega arith) (λ c. omega arith) loop-again (λ c. c.before.loop.invariant.1) returns)

@@ -39,8 +39,8 @@ returns c =
     let l = c.before.loop in
     let all : l.i ≡ c.before.before.before.before.args.n = omega arith in rw all at l.invariant.2
 
-pub put-records-spec : {M : Type 1} → statement M
-put-records-spec =
+pub put_records_spec : {M : Type 1} → statement M
+put_records_spec =
     tie.close
     (tie.spec invariant-loop decreases-loop (λ c. unfold record_rows in (omega arith, refl, wrote_none _ _)) (λ c. omega arith) (λ c. omega arith)
     (λ c. omega arith) (λ c. omega arith) (λ c. omega arith) (λ c. omega arith) put-row-requires (λ c. omega arith) (λ c. omega arith)

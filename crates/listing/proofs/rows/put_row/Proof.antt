@@ -40,8 +40,8 @@ returns c =
     row_done (omega arith) at.before.before.before.args.numbers.now at.loop.i _ (omega arith)
     c.before.before.before.wide2.ensures at.loop.invariant.2 c.before.before.put-number2.ensures
 
-pub put-row-spec : {M : Type 1} → statement M
-put-row-spec =
+pub put_row_spec : {M : Type 1} → statement M
+put_row_spec =
     tie.close
     (tie.spec invariant-loop decreases-loop (λ c. omega arith) (λ c. unfold spaced in (omega arith, refl, wrote_none _ _)) (λ c. omega arith)
     (λ c. omega arith) (λ c κs. tt) put-number-requires (λ c. omega arith) (λ c. omega arith) loop-again (λ c. omega arith)

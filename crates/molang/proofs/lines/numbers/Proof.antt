@@ -7,5 +7,5 @@ returns : tie.Need-returns
 unfolding computed
 returns c = (refl, refl)
 
-pub numbers-spec : {M : Type 1} → statement M
-numbers-spec = tie.close (tie.spec returns)
+pub numbers_spec : {M : Type 1} → statement M
+numbers_spec = tie.close (tie.spec returns)

@@ -37,8 +37,8 @@ returns c =
     joined.union.ensures
     noted.set-classes.ensures
 
-pub attach-two-spec : {M : Type 1} → statement M
-attach-two-spec =
+pub attach_two_spec : {M : Type 1} → statement M
+attach_two_spec =
     tie.close
     (tie.spec (λ c κs. search rules) (λ c κs. search rules) (λ c κs. search rules) (λ c κs. search rules) (λ c κs. search rules)
     (λ c κs. search rules) (λ c κs. search rules) (λ c. search rules) returns)

@@ -37,8 +37,8 @@ loop-again c =
     let v = c.before.before.loop.invariant.0 in
     (rw c.next-of3.ensures (count-step v.0 v.1 c.before.loop-test.true), omega arith)
 
-pub count-chain-spec : {M : Type 1} → statement M
-count-chain-spec =
+pub count_chain_spec : {M : Type 1} → statement M
+count_chain_spec =
     tie.close
     (tie.spec invariant-loop decreases-loop (λ c. let v = count-start c.before.before.requires in count-done v.0 v.1 c.if1.true)
     (λ c κs. let v = count-start c.before.before.requires in (count-in v.0 v.1 c.if1.false).0)

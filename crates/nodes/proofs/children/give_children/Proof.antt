@@ -69,8 +69,8 @@ returns c =
     headed.set_first.ensures
     noted.set-classes.ensures
 
-pub give-children-spec : {M : Type 1} → statement M
-give-children-spec =
+pub give_children_spec : {M : Type 1} → statement M
+give_children_spec =
     tie.close
     (tie.spec invariant-loop decreases-loop (λ c. give-start c.before.requires) (λ c. omega arith) (λ c. let b = bounds c in omega arith)
     (λ c. let b = bounds c in omega arith) (λ c. (bounds c.before).0) (λ c κs. (bounds c.before.before).1) classes-of-requires

@@ -23,8 +23,8 @@ loop-again c =
     let v = c.before.before.loop.invariant in
     rw c.next-of2.ensures (last_step v.0 v.1 c.before.loop-test.true)
 
-pub last-of-chain-spec : {M : Type 1} → statement M
-last-of-chain-spec =
+pub last_of_chain_spec : {M : Type 1} → statement M
+last_of_chain_spec =
     tie.close
     (tie.spec invariant-loop decreases-loop (λ c κs. last-first c.before.requires.0 c.before.requires.1)
     (λ c. rw c.next_of.ensures (last-start c.before.before.requires.0 c.before.before.requires.1)) (λ c κs. (bounds c).0)

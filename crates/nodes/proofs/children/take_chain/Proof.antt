@@ -42,8 +42,8 @@ loop-again c =
     let v = one test.before in
     rw c.next-of2.ensures (take_step v.1 v.2 test.if1.false)
 
-pub take-chain-spec : {M : Type 1} → statement M
-take-chain-spec =
+pub take_chain_spec : {M : Type 1} → statement M
+take_chain_spec =
     tie.close
     (tie.spec invariant-loop decreases-loop (λ c. take-start c.before.requires) (λ c. let b = bounds c in omega arith) (λ c. (bounds c).2)
     (λ c. let b = bounds c in omega arith) (λ c κs. let b = bounds c.before in simp length-set (omega arith))

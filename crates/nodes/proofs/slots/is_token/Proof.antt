@@ -16,8 +16,8 @@ returns-3 c =
     let leaf = c.before.before in
     rw (← leaf.before.first_of.ensures, eq-eqb _ 0 leaf.if1.false, ← c.operator-of.ensures)
 
-pub is-token-spec : {M : Type 1} → statement M
-is-token-spec =
+pub is_token_spec : {M : Type 1} → statement M
+is_token_spec =
     tie.close
     (tie.spec (λ c κs. search needs) (λ c. rw (← c.before.first_of.ensures, ne_eqb _ 0 c.if1.true)) (λ c κs. search needs)
     returns-2 (λ c κs. search needs) returns-3)

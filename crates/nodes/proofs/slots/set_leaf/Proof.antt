@@ -10,8 +10,8 @@ returns c =
     let a = start.args in
     laid-words a.work.now _ a.s a.token a.classes.0 start.requires c.before.before.lay.ensures
 
-pub set-leaf-spec : {M : Type 1} → statement M
-set-leaf-spec =
+pub set_leaf_spec : {M : Type 1} → statement M
+set_leaf_spec =
     tie.close
     (tie.spec (λ c. search rules) (λ c κs. search rules) (λ c. search rules) (λ c. search rules) (λ c. search rules) (λ c. search rules)
     (λ c. search rules) (λ c. simp length-set (search rules)) (λ c. search rules) (λ c. search rules) (λ c. simp length-set (search rules))

@@ -54,8 +54,8 @@ returns-2 c =
     let two : length (take words again) ≡ words = length-take-le words again start.requires.1 in
     sym (at.invariant.1 ∙ words-end (take words tree) (take words again) at.i (omega arith) (omega arith))
 
-pub same-words-spec : {M : Type 1} → statement M
-same-words-spec =
+pub same_words_spec : {M : Type 1} → statement M
+same_words_spec =
     tie.close
     (tie.spec invariant-loop decreases-loop (λ c. (omega arith, refl)) (λ c. omega arith) (λ c. omega arith) (λ c. omega arith) (λ c. omega arith)
     returns (λ c. omega arith) (λ c. omega arith) loop-again returns-2)

@@ -40,8 +40,8 @@ returns c =
     measured a.work.now emit.emit.new.0 a.first a.n to.tree_of.result stack.result emit.emit.result
     c.of_tree.result start.requires to.tree_of.ensures stack.ensures emit.emit.ensures c.of_tree.ensures
 
-pub extent-of-spec : {M : Type 1} → statement M
-extent-of-spec =
+pub extent_of_spec : {M : Type 1} → statement M
+extent_of_spec =
     tie.close
     (tie.spec (λ c κs. search rules) (λ c κs. search rules) emit-requires mul-end add-end (λ c. search rules) (λ c. search rules)
     (λ c. search rules) part-of-tree-end of-tree-requires (λ c. search rules) returns)

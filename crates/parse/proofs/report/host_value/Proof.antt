@@ -20,5 +20,5 @@ returns-2 c =
     (rw token.token-of.ensures at variant.ensures) c.if1.false
     (ap (λ k. k.value) token.token-of.ensures)
 
-pub host-value-spec : {M : Type 1} → statement M
-host-value-spec = tie.close (tie.spec (λ c κs. search rules) (λ c κs. search rules) returns returns-2)
+pub host_value_spec : {M : Type 1} → statement M
+host_value_spec = tie.close (tie.spec (λ c κs. search rules) (λ c κs. search rules) returns returns-2)

@@ -11,8 +11,8 @@ returns c =
     with-last c.and.ensures (with_first_lem naming.naming.ensures naming.before.spanning.ensures refl op)
     (closer-read c.before.before.closer-of.ensures op) c.before.operator-of2.ensures refl
 
-pub mismatched-spec : {M : Type 1} → statement M
-mismatched-spec =
+pub mismatched_spec : {M : Type 1} → statement M
+mismatched_spec =
     tie.close
     (tie.spec (λ c κs. search rules) (λ c κs. search rules) (λ c κs. search rules) (λ c κs. search rules) (λ c κs. search rules)
     (λ c κs. search rules) returns)

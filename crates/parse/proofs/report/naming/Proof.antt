@@ -7,5 +7,5 @@ use Rattle.parse.proofs.report.naming.Tie as tie
 returns : tie.Need-returns
 returns c = with_first_lem c.naming.ensures c.before.before.spanning.ensures c.before.operator-of.ensures refl
 
-pub naming-spec : {M : Type 1} → statement M
-naming-spec = tie.close (tie.spec (λ c κs. search rules) (λ c κs. search rules) (λ c κs. search rules) returns)
+pub naming_spec : {M : Type 1} → statement M
+naming_spec = tie.close (tie.spec (λ c κs. search rules) (λ c κs. search rules) (λ c κs. search rules) returns)

@@ -8,5 +8,5 @@ returns c =
     with_first_lem c.naming.ensures c.before.before.before.at_slot.ensures c.before.before.operator-of.ensures
     c.before.host-value.ensures
 
-pub naming-math-spec : {M : Type 1} → statement M
-naming-math-spec = tie.close (tie.spec (λ c κs. search rules) (λ c κs. search rules) (λ c κs. search rules) (λ c κs. search rules) returns)
+pub naming_math_spec : {M : Type 1} → statement M
+naming_math_spec = tie.close (tie.spec (λ c κs. search rules) (λ c κs. search rules) (λ c κs. search rules) (λ c κs. search rules) returns)

@@ -13,5 +13,5 @@ returns c =
     put.put.ensures
     ∙ ap (λ (ws : List ℕ). laid_at a.at ws a.messages.now) (ap eight_words put.before.new.ensures ∙ no-roots-words a.source)
 
-pub no-roots-spec : {M : Type 1} → statement M
-no-roots-spec = tie.close (tie.spec (λ c κs. search rules) (λ c κs. search rules) (λ c. search rules) returns)
+pub no_roots_spec : {M : Type 1} → statement M
+no_roots_spec = tie.close (tie.spec (λ c κs. search rules) (λ c κs. search rules) (λ c. search rules) returns)

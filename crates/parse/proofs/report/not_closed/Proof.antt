@@ -8,5 +8,5 @@ returns c =
     let op = c.before.before.before.operator-of.ensures in
     with_first_lem c.naming.ensures c.before.before.at_slot.ensures (closer-read c.before.closer-of.ensures op) op
 
-pub not-closed-spec : {M : Type 1} → statement M
-not-closed-spec = tie.close (tie.spec (λ c κs. search rules) (λ c κs. search rules) (λ c κs. search rules) (λ c κs. search rules) returns)
+pub not_closed_spec : {M : Type 1} → statement M
+not_closed_spec = tie.close (tie.spec (λ c κs. search rules) (λ c κs. search rules) (λ c κs. search rules) (λ c κs. search rules) returns)

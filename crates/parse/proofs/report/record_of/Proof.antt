@@ -35,8 +35,8 @@ naming-requires-5 c κs =
     let slots = slots_at c.before.before.before.before c.before.failure13.given.1 in
     (slots.0, slots.0, slots.0)
 
-pub record-of-spec : {M : Type 1} → statement M
-record-of-spec =
+pub record_of_spec : {M : Type 1} → statement M
+record_of_spec =
     tie.close
     (tie.spec (λ c. search rules) (λ c κs. (slots_at c.before.before.before.before c.before.failure.given.1).0)
     (λ c. search rules) (λ c κs. search rules) (λ c. search rules)

@@ -10,7 +10,7 @@ returns c =
     let put = c.before.before.put in
     failed-reported a.work.now a.messages.now put.new.0 a.source a.failure r.result put.ensures r.ensures
 
-pub report-spec : {M : Type 1} → statement M
-report-spec =
+pub report_spec : {M : Type 1} → statement M
+report_spec =
     tie.close
     (tie.spec (λ c κs. failed-slots c.before.before.before.requires) (λ c κs. search rules) (λ c. search rules) returns)

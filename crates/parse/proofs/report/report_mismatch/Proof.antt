@@ -13,8 +13,8 @@ returns c =
     mismatch-reported a.work.now a.messages.now put.put.new.0 put2.put2.new.0 a.m first.result second.result
     put.put.ensures first.ensures put2.put2.ensures second.ensures
 
-pub report-mismatch-spec : {M : Type 1} → statement M
-report-mismatch-spec =
+pub report_mismatch_spec : {M : Type 1} → statement M
+report_mismatch_spec =
     tie.close
     (tie.spec (λ c κs. let p = mismatch-slots c.before.before.before.requires.can in (p.0, p.1)) (λ c κs. search rules)
     (λ c κs. (mismatch-slots c.before.before.before.before.before.before.before.before.requires.can).2) (λ c κs. search rules)

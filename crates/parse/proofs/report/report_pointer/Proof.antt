@@ -11,7 +11,7 @@ returns c =
     pointer-reported a.work.now a.messages.now first.report.new.1.0 second.new.0 a.source a.failure
     first.report.ensures second.ensures
 
-pub report-pointer-spec : {M : Type 1} → statement M
-report-pointer-spec =
+pub report_pointer_spec : {M : Type 1} → statement M
+report_pointer_spec =
     tie.close
     (tie.spec (λ c κs. pointer-fails c.before.before.before.requires) (λ c κs. search rules) (λ c. search rules) returns)

@@ -39,8 +39,8 @@ returns c =
     number.count-chain.ensures tail.ensures last.ensures
     (put.put.ensures ∙ ap (λ (ws : List ℕ). laid_at 0 ws a.messages.now) words)
 
-pub report-roots-spec : {M : Type 1} → statement M
-report-roots-spec =
+pub report_roots_spec : {M : Type 1} → statement M
+report_roots_spec =
     tie.close
     (tie.spec (λ c κs. roots-follow c.before.before.before.requires)
     (λ c κs. let p = c.before.before.before.before.before.requires in (roots-follow p, roots-some p)) (λ c κs. search rules)

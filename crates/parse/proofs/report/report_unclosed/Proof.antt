@@ -13,8 +13,8 @@ returns c =
     unclosed-reported a.work.now a.messages.now put.put.new.0 put2.put2.new.0 a.u first.result second.result
     put.put.ensures first.ensures put2.put2.ensures second.ensures
 
-pub report-unclosed-spec : {M : Type 1} → statement M
-report-unclosed-spec =
+pub report_unclosed_spec : {M : Type 1} → statement M
+report_unclosed_spec =
     tie.close
     (tie.spec (λ c κs. (unclosed-slots c.before.before.before.requires.can).0) (λ c κs. search rules)
     (λ c κs. (unclosed-slots c.before.before.before.before.before.before.before.before.requires.can).1) (λ c κs. search rules)

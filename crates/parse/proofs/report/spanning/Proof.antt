@@ -3,5 +3,5 @@ use borrow.Author.Rules.{rules}
 use Rattle.parse.proofs.report.spanning.Statement.{statement}
 use Rattle.parse.proofs.report.spanning.Tie as tie
 
-pub spanning-spec : {M : Type 1} → statement M
-spanning-spec = tie.close (tie.spec (λ c κs. search rules) (λ c κs. search rules) (λ c κs. search rules) (λ c. cc))
+pub spanning_spec : {M : Type 1} → statement M
+spanning_spec = tie.close (tie.spec (λ c κs. search rules) (λ c κs. search rules) (λ c κs. search rules) (λ c. cc))

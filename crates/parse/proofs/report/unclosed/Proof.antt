@@ -10,7 +10,7 @@ returns c =
     with-last c.and.ensures (with_first_lem c.before.before.naming.ensures c.before.before.before.at_slot.ensures refl op)
     (closer-read c.before.closer-of.ensures op) refl refl
 
-pub unclosed-spec : {M : Type 1} → statement M
-unclosed-spec =
+pub unclosed_spec : {M : Type 1} → statement M
+unclosed_spec =
     tie.close
     (tie.spec (λ c κs. search rules) (λ c κs. search rules) (λ c κs. search rules) (λ c κs. search rules) (λ c κs. search rules) returns)

@@ -12,8 +12,8 @@ returns-2 c =
     index-opens c.before.past.result (sym full.before.is_leaf.ensures ∙ full.if1.false) lent.lend-name.ensures
     c.before.past.ensures c.enter.ensures
 
-pub array-index-spec : {M : Type 1} → statement M
-array-index-spec =
+pub array_index_spec : {M : Type 1} → statement M
+array_index_spec =
     tie.close
     (tie.spec (λ c κs. search rules) (λ c. search rules) (λ c. empty (sym c.before.is_leaf.ensures ∙ c.if1.true) refl refl)
     (λ c κs. search rules) (λ c κs. search rules) (λ c κs. search rules) (λ c. search rules) returns-2)

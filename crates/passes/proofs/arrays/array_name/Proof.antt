@@ -26,8 +26,8 @@ returns-2 c =
     name-indexed indexed.before.next-if.result indexed.before.next-if.ensures indexed.if1.false
     renamed.set-operator.ensures turned.array-index.ensures
 
-pub array-name-spec : {M : Type 1} → statement M
-array-name-spec =
+pub array_name_spec : {M : Type 1} → statement M
+array_name_spec =
     tie.close
     (tie.spec (λ c κs. can-next c.before.before.requires) (λ c κs. search rules) (λ c κs. search rules) (λ c. search rules) returns
     (λ c κs. (token-room c.before.before.before.before.before.requires).0) array-index-requires (λ c. search rules) returns-2)

@@ -41,8 +41,8 @@ returns-2 c =
     kept.keep.result c.on.result rounded.turn-round.ensures kept.keep.ensures.1
     kept.keep.ensures.0 c.on.ensures
 
-pub array-on-spec : {M : Type 1} → statement M
-array-on-spec =
+pub array_on_spec : {M : Type 1} → statement M
+array_on_spec =
     tie.close
     (tie.spec (λ c κs. let pre = c.before.before.requires in array-peek pre.1 pre.0) array-index-requires (λ c. search rules) returns
     (λ c κs. let pre = c.before.before.before.before.before.requires in array-can-round pre.1 pre.0) keep-requires

@@ -56,8 +56,8 @@ returns c =
     gather-done c.before.before.before.before.before.loop.invariant _ c.before.before.before.before.loop-test.false
     c.before.before.set_first.ensures
 
-pub gather-spec : {M : Type 1} → statement M
-gather-spec =
+pub gather_spec : {M : Type 1} → statement M
+gather_spec =
     tie.close
     (tie.spec invariant-loop decreases-loop (λ c κs. omega (arith, c.before.before.requires.own, c.before.before.requires.within)) first-of-requires-2
     (λ c. gather-start c.before.before.first_of.ensures c.first-of2.ensures) next-of-requires set-next-requires loop-less

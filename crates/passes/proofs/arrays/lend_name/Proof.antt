@@ -35,8 +35,8 @@ returns-4 c =
     index.before.operator-of.ensures index.if3.false next.next_of.ensures taken.set_first.ensures
     renamed.set-operator.ensures
 
-pub lend-name-spec : {M : Type 1} → statement M
-lend-name-spec =
+pub lend_name_spec : {M : Type 1} → statement M
+lend_name_spec =
     tie.close
     (tie.spec (λ c κs. search needs) (λ c κs. search needs) (λ c. search needs) returns (λ c κs. search needs) (λ c. search needs)
     returns-2 (λ c κs. search needs) (λ c. search needs) returns-3 (λ c κs. search needs) (λ c κs. search needs) (λ c κs. search needs)

@@ -12,8 +12,8 @@ returns c =
 returns-2 : tie.Need-returns-2
 returns-2 c = let taken = c.before.before in resumed-gathered taken.before.before.if1.false taken.gather.ensures
 
-pub resume-array-spec : {M : Type 1} → statement M
-resume-array-spec =
+pub resume_array_spec : {M : Type 1} → statement M
+resume_array_spec =
     tie.close
     (tie.spec (λ c κs. resume-room c.before.before.before.requires) (λ c. search rules) returns
     (λ c κs. resume-gathers c.before.if1.false c.before.before.before.requires) (λ c. search rules) returns-2)

@@ -86,8 +86,8 @@ returns c =
     let left = headed.before.before in
     round-done left.before.loop.invariant _ _ left.loop-test.false headed.set_first.ensures noted.set-classes.ensures
 
-pub turn-round-spec : {M : Type 1} → statement M
-turn-round-spec =
+pub turn_round_spec : {M : Type 1} → statement M
+turn_round_spec =
     tie.close
     (tie.spec invariant-loop decreases-loop (λ c κs. omega (arith, c.before.before.requires.own, c.before.before.requires.within))
     (λ c. round-start c.first_of.ensures) next-of-requires set-next-requires classes-of-requires (λ c κs. tt) loop-less loop-again

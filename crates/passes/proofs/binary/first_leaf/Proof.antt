@@ -35,8 +35,8 @@ loop-again-2 c = λ g.
     (search-next (c.before.before.before.before.before.before.loop.invariant g) c.before.before.before.before.if1.false
     (shares_as c.before.before.intersects.ensures c.before.before.before.classes-of.ensures refl c.before.if2.false))
 
-pub first-leaf-spec : {M : Type 1} → statement M
-first-leaf-spec =
+pub first_leaf_spec : {M : Type 1} → statement M
+first_leaf_spec =
     tie.close
     (tie.spec invariant-loop decreases-loop (λ c. search-start _ c.before.args.top c.before.args.classes.0) (λ c. omega arith)
     (λ c. λ g ops covers. search-done (c.before.before.loop.invariant g) c.if1.true ops covers)

@@ -22,8 +22,8 @@ returns-2 c =
     c.before.before.before.fold.ensures c.before.before.before.before.before.before.before.before.past.ensures
     c.on.ensures
 
-pub folded-spec : {M : Type 1} → statement M
-folded-spec =
+pub folded_spec : {M : Type 1} → statement M
+folded_spec =
     tie.close
     (tie.spec (λ c. search rules) (λ c. search rules) (λ c. search rules) (λ c κs. search rules)
     (λ c κs. (operate-room c.before.before.before.before.before.requires).0) (λ c κs. search rules) fold-requires (λ c κs. search rules)

@@ -59,8 +59,8 @@ returns-4 c = λ ops covers.
     c.before.before.before.before.before.before.classes-of.ensures refl c.before.before.before.before.if3.false)
     c.before.before.folded.ensures
 
-pub operator-spec : {M : Type 1} → statement M
-operator-spec =
+pub operator_spec : {M : Type 1} → statement M
+operator_spec =
     tie.close
     (tie.spec (λ c. λ ops covers. operator-begins c.before.before.before.args.classes ops covers c.if1.true) returns-2
     (λ c. search rules) (λ c. search rules) (λ c. search rules) (λ c. search rules) classes-of-requires (λ c κs. search rules)

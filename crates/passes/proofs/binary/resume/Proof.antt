@@ -16,8 +16,8 @@ returns-2 c =
     resumed-folded c.before.before.before.before.before.before.args.classes c.before.before.before.before.if1.false
     c.before.before.fold.ensures
 
-pub resume-spec : {M : Type 1} → statement M
-resume-spec =
+pub resume_spec : {M : Type 1} → statement M
+resume_spec =
     tie.close
     (tie.spec (λ c κs. resume-room c.before.before.before.args.classes c.before.before.before.requires) (λ c. search rules) returns
     fold-requires (λ c. search rules) returns-2)

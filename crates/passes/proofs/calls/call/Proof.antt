@@ -38,8 +38,8 @@ returns-3 c =
     (sym c.before.before.before.before.before.is_leaf.ensures ∙ c.before.before.before.before.if2.false)
     c.before.before.called.ensures
 
-pub call-spec : {M : Type 1} → statement M
-call-spec =
+pub call_spec : {M : Type 1} → statement M
+call_spec =
     tie.close
     (tie.spec (λ c κs. can-next c.before.before.requires) (λ c κs. search rules) (λ c κs. search rules) (λ c. search rules) returns
     is-leaf-requires (λ c. search rules) returns-2 called-requires (λ c. search rules) returns-3)

@@ -43,8 +43,8 @@ returns-2 c =
     c.before.before.before.before.before.before.before.before.before.before.before.before.before.before.past.ensures
     c.before.before.before.keep.ensures.1 c.before.before.before.keep.ensures.0 c.on.ensures
 
-pub called-spec : {M : Type 1} → statement M
-called-spec =
+pub called_spec : {M : Type 1} → statement M
+called_spec =
     tie.close
     (tie.spec (λ c κs. search rules) (λ c κs. can-attach c.before.before.before.requires) (λ c κs. search rules) classes-of-requires
     (λ c κs. search rules) (λ c κs. search rules) (λ c. search rules) returns keep-requires (λ c κs. search rules) (λ c. search rules)

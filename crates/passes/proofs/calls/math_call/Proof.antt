@@ -24,8 +24,8 @@ returns-3 c =
     math-failed c.before.before.before.next-if.result c.before.before.before.next-if.ensures c.before.before.if1.false
     c.if2.false
 
-pub math-call-spec : {M : Type 1} → statement M
-math-call-spec =
+pub math_call_spec : {M : Type 1} → statement M
+math_call_spec =
     tie.close
     (tie.spec (λ c κs. can-next c.before.before.requires) called-requires (λ c. search rules) returns (λ c. search rules) returns-2
     (λ c. search rules) returns-3)

@@ -38,8 +38,8 @@ loop-again c = (
       (sym c.before.is-token2.ensures ∙ c.if2.false),
 )
 
-pub dangling-spec : {M : Type 1} → statement M
-dangling-spec =
+pub dangling_spec : {M : Type 1} → statement M
+dangling_spec =
     tie.close
     (tie.spec invariant-loop decreases-loop (λ c. (c.before.requires, dangle-start)) (λ c. let b = bounds c in omega arith)
     (λ c. let b = bounds c in omega arith) (λ c. (bounds c.before).0) (λ c κs. (bounds c.before).1) returns

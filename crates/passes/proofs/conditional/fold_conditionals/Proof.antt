@@ -26,8 +26,8 @@ bounds c =
     let r = scan-in v.1 v.0 in
     (omega (arith, c.before.loop-test.false, c.if2.false), r.0, r.1, r.2, r.3)
 
-pub fold-conditionals-spec : {M : Type 1} → statement M
-fold-conditionals-spec =
+pub fold_conditionals_spec : {M : Type 1} → statement M
+fold_conditionals_spec =
     tie.close
     (tie.spec invariant-loop decreases-loop (λ c. folded-few c.if1.true) (λ c. omega (arith, c.if1.false)) (λ c. omega (arith, c.if1.false))
     (λ c. (c.before.before.requires, scan-start (omega (arith, c.if1.false))))

@@ -67,8 +67,8 @@ returns-5 c =
     omega (arith, c.before.before.before.before.before.if1.false) in
     no_if some (sym c.before.is-token.ensures ∙ c.if3.false)
 
-pub fold-else-spec : {M : Type 1} → statement M
-fold-else-spec =
+pub fold_else_spec : {M : Type 1} → statement M
+fold_else_spec =
     tie.close
     (tie.spec (λ c. start c.if1.true) (λ c. search rules) (λ c. short c.if2.true) (λ c. search rules) (λ c. search rules)
     (λ c. search rules) (λ c. search rules) is-token-requires (λ c. search rules) (λ c. search rules) (λ c. search rules)

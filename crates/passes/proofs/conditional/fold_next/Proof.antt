@@ -53,8 +53,8 @@ returns-3 c =
     ))
     c.before.before.before.before.before.before.before.before.requires.scan.full
 
-pub fold-next-spec : {M : Type 1} → statement M
-fold-next-spec =
+pub fold_next_spec : {M : Type 1} → statement M
+fold_next_spec =
     tie.close
     (tie.spec (λ c κs. scan-look c.before.before.requires.scan) fold-last-requires (λ c. search rules) (λ c. search rules) returns
     (λ c. search rules) (λ c. search rules) (λ c. search rules) (λ c. search rules) is-token-requires fold-last-requires-2

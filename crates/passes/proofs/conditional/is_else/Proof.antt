@@ -22,8 +22,8 @@ returns-2 c =
     omega (arith, c.before.before.before.before.before.if1.false) in
     looked many (sym c.before.before.before.is-token.ensures ∙ c.before.before.if2.true) c.is-token2.ensures
 
-pub is-else-spec : {M : Type 1} → statement M
-is-else-spec =
+pub is_else_spec : {M : Type 1} → statement M
+is_else_spec =
     tie.close
     (tie.spec (λ c. few c.if1.true) (λ c. search rules) (λ c. search rules) (λ c. search rules) (λ c. search rules) is-token-requires
     (λ c. search rules) (λ c. search rules) (λ c. search rules) is-token-requires-2 returns-2

@@ -27,8 +27,8 @@ returns-2 c =
     (rw past.ensures at keep.ensures.1)
     past.result keep.result c.on.result past.ensures keep.ensures.0 c.on.ensures
 
-pub returned-spec : {M : Type 1} → statement M
-returned-spec =
+pub returned_spec : {M : Type 1} → statement M
+returned_spec =
     tie.close
     (tie.spec (λ c. let a = c.before.before.before.args in returned-end _ a.list a.item c.if1.true) (λ c. search rules)
     (λ c. search rules) (λ c. search rules) attach-requires (λ c κs. search rules) keep-requires (λ c κs. search rules) (λ c. search rules)

@@ -10,8 +10,8 @@ returns-2 c =
     begun c.before.before.before.before.before.if1.false
     (rw c.before.before.before.second-spare.ensures at c.before.before.make.ensures)
 
-pub begin-list-spec : {M : Type 1} → statement M
-begin-list-spec =
+pub begin_list_spec : {M : Type 1} → statement M
+begin_list_spec =
     tie.close
     (tie.spec (λ c. there c.if1.true) (λ c κs. omega (arith, c.before.before.before.requires.0, c.before.before.before.requires.1))
     (λ c κs. search rules) (λ c. search rules) returns-2)

@@ -20,8 +20,8 @@ returns-2 c =
     omega (arith, start.requires.from, c.before.before.before.before.before.before.before.before.before.if1.false) in
     closing unended (rw c.before.before.before.before.before.spare.ensures at c.before.before.end-statement.ensures)
 
-pub end-open-spec : {M : Type 1} → statement M
-end-open-spec =
+pub end_open_spec : {M : Type 1} → statement M
+end_open_spec =
     tie.close
     (tie.spec (λ c. complete c.if1.true) (λ c. search rules) (λ c. search rules) (λ c. search rules) (λ c. search rules)
     (λ c κs. search rules) (λ c. search rules) (λ c. search rules) end-statement-requires (λ c. search rules) (λ c. search rules) returns-2)

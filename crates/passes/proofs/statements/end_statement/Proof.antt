@@ -22,8 +22,8 @@ same_length c =
     set_long c.before.before.give-children.new.0 _ start.args.at start.args.slot refl
     ∙ c.before.before.give-children.ensures.long ∙ c.before.before.before.before.before.before.make.ensures.long
 
-pub end-statement-spec : {M : Type 1} → statement M
-end-statement-spec =
+pub end_statement_spec : {M : Type 1} → statement M
+end_statement_spec =
     tie.close
     (tie.spec (λ c. search rules) (λ c. search rules) make-requires give-children-requires (λ c. search rules) (λ c. search rules)
     same_length (λ c. search rules))

@@ -39,8 +39,8 @@ returns-2 c =
     let start = c.before.before.before in
     look-done (c.before.loop.invariant start.args.list refl refl) c.loop-test.false
 
-pub has-semicolon-spec : {M : Type 1} → statement M
-has-semicolon-spec =
+pub has_semicolon_spec : {M : Type 1} → statement M
+has_semicolon_spec =
     tie.close
     (tie.spec invariant-loop decreases-loop (λ c. λ v b l. look-start) (λ c. search rules) (λ c. search rules)
     (λ c. omega (arith, c.before.loop-test.true, c.before.before.before.before.requires.within)) (λ c. search rules) is-token-requires

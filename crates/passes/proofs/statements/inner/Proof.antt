@@ -24,8 +24,8 @@ returns-2 c =
     ∙ c.before.before.before.before.before.if1.false)
     k.1))
 
-pub inner-spec : {M : Type 1} → statement M
-inner-spec =
+pub inner_spec : {M : Type 1} → statement M
+inner_spec =
     tie.close
     (tie.spec (λ c κs. search rules) (λ c κs. search rules) (λ c κs. search rules) (λ c. search rules) returns (λ c κs. search rules)
     (λ c κs. search rules) (λ c. search rules) returns-2)

@@ -28,8 +28,8 @@ returns-3 c =
     c.before.before.before.before.before.before.before.before.before.before.begin-list.ensures
     c.before.before.before.before.end-statement.ensures c.before.moved.ensures c.on2.ensures
 
-pub semicolon-spec : {M : Type 1} → statement M
-semicolon-spec =
+pub semicolon_spec : {M : Type 1} → statement M
+semicolon_spec =
     tie.close
     (tie.spec (λ c κs. search rules) (λ c. leading c.if1.true) (λ c κs. search rules) returns-2 (λ c κs. search rules)
     (λ c. search rules) (λ c. search rules) end-statement-requires (λ c. search rules) (λ c κs. search rules) (λ c. search rules)

@@ -69,8 +69,8 @@ returns-5 c =
     (read_some c.before.before.before.before.before.before.before.before.if1.false)
     (what-before c.before.before.before-minus.ensures c.before.before.before.operator-of.ensures c.enum-told4.given.1)
 
-pub minus-spec : {M : Type 1} → statement M
-minus-spec =
+pub minus_spec : {M : Type 1} → statement M
+minus_spec =
     tie.close
     (tie.spec prefix-requires (λ c κs. search rules) (λ c. search rules) returns (λ c. search rules) (λ c. search rules)
     (λ c. search rules) (λ c. search rules) operator-of-requires (λ c κs. search rules) (λ c. search rules) prefix-requires-2

@@ -71,8 +71,8 @@ returns-3 : tie.Need-returns-3 invariant-loop decreases-loop
 returns-3 c =
     sought-back-none c.before.before.loop.invariant.2 (omega (arith, c.before.loop-test.false)) c.moved2.result c.moved2.ensures
 
-pub previous-token-spec : {M : Type 1} → statement M
-previous-token-spec =
+pub previous_token_spec : {M : Type 1} → statement M
+previous_token_spec =
     tie.close
     (tie.spec invariant-loop decreases-loop (λ c. (c.before.requires, refl, seek-back-start c.before.args.list c.before.requires)) (λ c. omega arith)
     (λ c. let b = bounds c in omega arith) (λ c. let b = bounds c in omega arith) (λ c. (bounds c.before).0)

@@ -17,8 +17,8 @@ returns c =
     c.before.before.before.before.before.before.to-add.ensures c.before.before.keep-right.ensures.1
     c.before.before.keep-right.ensures.0
 
-pub subtract-spec : {M : Type 1} → statement M
-subtract-spec =
+pub subtract_spec : {M : Type 1} → statement M
+subtract_spec =
     tie.close
     (tie.spec (λ c κs. search rules) (λ c κs. search rules) prefix-requires (λ c κs. search rules) (λ c κs. search rules)
     (λ c. search rules) returns)

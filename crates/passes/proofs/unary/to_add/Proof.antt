@@ -21,8 +21,8 @@ returns-2 c =
     (sym c.before.before.before.before.before.is_leaf.ensures ∙ c.before.before.before.before.if1.false)
     c.before.before.set-operator2.ensures
 
-pub to-add-spec : {M : Type 1} → statement M
-to-add-spec =
+pub to_add_spec : {M : Type 1} → statement M
+to_add_spec =
     tie.close
     (tie.spec (λ c κs. search rules) (λ c κs. search rules) (λ c κs. search rules) (λ c. search rules) returns (λ c κs. search rules)
     (λ c. search rules) returns-2)

@@ -27,8 +27,8 @@ returns-4 c =
     c.before.before.before.before.before.if3.false)
     c.before.before.before.prefix.ensures c.on.ensures
 
-pub token-spec : {M : Type 1} → statement M
-token-spec =
+pub token_spec : {M : Type 1} → statement M
+token_spec =
     tie.close
     (tie.spec (λ c κs. token-within c.before.before.requires) (λ c. search rules) returns (λ c κs. search rules) (λ c. search rules)
     (λ c. search rules) (λ c. search rules) returns-3 prefix-requires (λ c κs. search rules) (λ c. search rules) returns-4)

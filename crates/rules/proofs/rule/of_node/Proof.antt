@@ -27,7 +27,7 @@ returns-2 c first h =
     ((λ i. get_or (h i) (looked.index_of.ensures i) 0)
     ∙ (rule-in first _ ∙ ap (operator_rule first) looked.before.operator.ensures))
 
-pub of-node-spec : {M : Type 1} → statement M
-of-node-spec =
+pub of_node_spec : {M : Type 1} → statement M
+of_node_spec =
     tie.close
     (tie.spec (λ c κs. search needs) (λ c κs. search needs) (λ c. search needs) (λ c κs. search needs) returns returns-2)

@@ -5,8 +5,8 @@ use Rattle.ops.specs.Classes.{up_to}
 use Rattle.rules.proofs.rule.table.Statement.{statement}
 use Rattle.rules.proofs.rule.table.Tie as tie
 
-pub table-spec : {M : Type 1} → statement M
-table-spec =
+pub table_spec : {M : Type 1} → statement M
+table_spec =
     tie.close
     (tie.spec (λ c. search rules) (λ c. search rules) (λ c. search rules) (λ c. search rules)
     (λ c. unfold between is_math_call number_beside operator_rule up_to in rw c.if1.true)

@@ -13,5 +13,5 @@ returns-2 : tie.Need-returns-2
 unfolding children_of
 returns-2 c = rw (sym c.before.is-section.ensures ∙ c.if1.false, children_of) refl
 
-pub children-spec : {M : Type 1} → statement M
-children-spec = tie.close (tie.spec (λ c κs. search rules) returns returns-2)
+pub children_spec : {M : Type 1} → statement M
+children_spec = tie.close (tie.spec (λ c κs. search rules) returns returns-2)

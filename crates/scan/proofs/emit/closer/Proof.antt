@@ -13,5 +13,5 @@ returns-2 : tie.Need-returns-2
 unfolding closer_place
 returns-2 c = rw (sym c.before.before.is-section.ensures ∙ c.before.if1.false, closer_place) c.wide2.ensures
 
-pub closer-spec : {M : Type 1} → statement M
-closer-spec = tie.close (tie.spec (λ c κs. search rules) (λ c κs. search rules) returns (λ c κs. search rules) returns-2)
+pub closer_spec : {M : Type 1} → statement M
+closer_spec = tie.close (tie.spec (λ c κs. search rules) (λ c κs. search rules) returns (λ c κs. search rules) returns-2)

@@ -47,8 +47,8 @@ returns c =
     let inv = c.before.loop.invariant in
     (refl, inv.0 ∙ all-emitted _ _ _ _ _ (omega (arith, inv.2, c.loop-test.false)))
 
-pub emit-spec : {M : Type 1} → statement M
-emit-spec =
+pub emit_spec : {M : Type 1} → statement M
+emit_spec =
     tie.close
     (tie.spec invariant-loop decreases-loop loop-holds (λ c. omega arith) (λ c. omega arith) put-requires (λ c. omega arith) (λ c. omega arith)
     (λ c. omega arith) loop-again (λ c. omega arith) (λ c. c.before.loop.invariant.4) returns)

@@ -13,5 +13,5 @@ returns-2 : tie.Need-returns-2
 unfolding form_of
 returns-2 c = rw (sym c.before.is-section.ensures ∙ c.if1.false, form_of) refl
 
-pub form-spec : {M : Type 1} → statement M
-form-spec = tie.close (tie.spec (λ c κs. search rules) returns returns-2)
+pub form_spec : {M : Type 1} → statement M
+form_spec = tie.close (tie.spec (λ c κs. search rules) returns returns-2)

@@ -4,5 +4,5 @@ use Rattle.scan.specs.Records.{is_section}
 use Rattle.scan.proofs.emit.is_section.Statement.{statement}
 use Rattle.scan.proofs.emit.is_section.Tie as tie
 
-pub is-section-spec : {M : Type 1} → statement M
-is-section-spec = tie.close (tie.spec (λ c. unfold is_section in refl))
+pub is_section_spec : {M : Type 1} → statement M
+is_section_spec = tie.close (tie.spec (λ c. unfold is_section in refl))

@@ -13,8 +13,8 @@ returns-5 c =
     let g = f.before in
     c.renamed2.ensures ∙ sym (label-other _ _ (omega (arith, d.if4.false, f.if3.false, g.if2.false, g.before.if1.false)))
 
-pub label-spec : {M : Type 1} → statement M
-label-spec =
+pub label_spec : {M : Type 1} → statement M
+label_spec =
     tie.close
     (tie.spec (λ c. unfold label_words in rw (c.if1.true, label_words) refl) (λ c κs. search rules)
     (λ c. unfold label_words in rw (c.before.if2.true, label_words) c.renamed.ensures) (λ c κs. search rules)

@@ -12,8 +12,8 @@ returns-3 c =
     λ e. callable _ _ _ _ (omega arith) looked.op-at.ensures.found seen.entry_of.ensures (omega arith) (sym
     c.is-let.ensures ∙ e)
 
-pub is-callable-spec : {M : Type 1} → statement M
-is-callable-spec =
+pub is_callable_spec : {M : Type 1} → statement M
+is_callable_spec =
     tie.close
     (tie.spec (λ c. λ e. absurd (false≢true e)) (λ c. search rules) (λ c κs. search rules) (λ c κs. search rules)
     (λ c. λ e. absurd (false≢true e)) (λ c κs. search rules) returns-3)

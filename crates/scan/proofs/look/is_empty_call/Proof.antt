@@ -12,8 +12,8 @@ returns-4 c =
     λ e v s. empty-call _ _ _ _ _ (omega arith) (omega arith) looked.op-at.ensures.found seen.entry_of.ensures (omega arith)
     (sym c.is-let.ensures ∙ e) v s
 
-pub is-empty-call-spec : {M : Type 1} → statement M
-is-empty-call-spec =
+pub is_empty_call_spec : {M : Type 1} → statement M
+is_empty_call_spec =
     tie.close
     (tie.spec (λ c. λ e. absurd (false≢true e)) (λ c. λ e. absurd (false≢true e)) (λ c. search rules) (λ c κs. search rules)
     (λ c κs. search rules) (λ c. λ e. absurd (false≢true e)) (λ c κs. search rules) returns-4)

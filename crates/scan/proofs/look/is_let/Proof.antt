@@ -11,5 +11,5 @@ returns c = let e = le-leb 111 _ c.if1.true in e ∙ rw (e, lets) refl
 returns-2 : tie.Need-returns-2
 returns-2 c = c.contains.ensures ∙ rw (lt-leb 111 _ c.before.if1.false, lets) refl
 
-pub is-let-spec : {M : Type 1} → statement M
-is-let-spec = tie.close (tie.spec (λ c κs. search needs) returns returns-2)
+pub is_let_spec : {M : Type 1} → statement M
+is_let_spec = tie.close (tie.spec (λ c κs. search needs) returns returns-2)

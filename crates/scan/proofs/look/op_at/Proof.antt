@@ -6,5 +6,5 @@ use Rattle.scan.proofs.look.op_at.Tie as tie
 returns : tie.Need-returns
 returns c = let a = c.before.before.before in looked _ _ _ a.requires.0 a.requires.1 c.operator.ensures
 
-pub op-at-spec : {M : Type 1} → statement M
-op-at-spec = tie.close (tie.spec (λ c. search rules) (λ c. search rules) (λ c κs. search rules) returns)
+pub op_at_spec : {M : Type 1} → statement M
+op_at_spec = tie.close (tie.spec (λ c. search rules) (λ c. search rules) (λ c κs. search rules) returns)

@@ -22,7 +22,7 @@ returns c =
 returns-2 : tie.Need-returns-2
 returns-2 c = record { came = nowhere; long = c.before.before.before.wants.ensures.long }
 
-pub both-spec : {M : Type 1} → statement M
-both-spec =
+pub both_spec : {M : Type 1} → statement M
+both_spec =
     tie.close
     (tie.spec (λ c κs. search rules) (λ c. search rules) haves-requires (λ c. search rules) returns (λ c. search rules) returns-2)

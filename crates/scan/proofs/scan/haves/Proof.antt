@@ -44,8 +44,8 @@ returns c =
     let at = turn.before.before in
     walked_on at.loop.invariant (have-on _ _ _ _ _ at.loop.invariant.goes turn.have.ensures)
 
-pub haves-spec : {M : Type 1} → statement M
-haves-spec =
+pub haves_spec : {M : Type 1} → statement M
+haves_spec =
     tie.close
     (tie.spec invariant-loop decreases-loop loop-holds (λ c κs. let g = c.before.loop.invariant.goes in (g.can, g.low)) (λ c. search rules) loop-less
     loop-again same_length returns)

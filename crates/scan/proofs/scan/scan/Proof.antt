@@ -33,8 +33,8 @@ returns-2 c =
     has-scanned _ _ _ start.args.version _ (chosen.table_of.ensures ∙ ap (λ v. table_of (rules v)) (to_z-of_z start.fits.version))
     (sym else.before.has_either.ensures ∙ else.if1.left) pushed.push.ensures.long done.turns.ensures
 
-pub scan-spec : {M : Type 1} → statement M
-scan-spec =
+pub scan_spec : {M : Type 1} → statement M
+scan_spec =
     tie.close
     (tie.spec (λ c κs. search rules) (λ c. gives_up _ _ _ _) (λ c κs. search rules) push-requires turns-requires (λ c. search rules)
     returns-2)

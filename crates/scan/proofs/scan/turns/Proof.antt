@@ -47,8 +47,8 @@ returns-2 c =
     let turn = c.before.before.before in
     record { answers = stopped; long = turn.both.ensures.long ∙ turn.before.before.loop.invariant.long }
 
-pub turns-spec : {M : Type 1} → statement M
-turns-spec =
+pub turns_spec : {M : Type 1} → statement M
+turns_spec =
     tie.close
     (tie.spec invariant-loop decreases-loop loop-holds (λ c κs. c.before.loop.invariant.goes) (λ c. search rules) loop-less loop-again (λ c. search rules)
     same_length returns same-length-2 returns-2)

@@ -44,8 +44,8 @@ returns c =
     let at = turn.before.before in
     walked_on at.loop.invariant (want-on _ _ _ _ _ at.loop.invariant.goes turn.want.ensures)
 
-pub wants-spec : {M : Type 1} → statement M
-wants-spec =
+pub wants_spec : {M : Type 1} → statement M
+wants_spec =
     tie.close
     (tie.spec invariant-loop decreases-loop loop-holds (λ c κs. let g = c.before.loop.invariant.goes in g.can) (λ c. search rules) loop-less loop-again
     same_length returns)

@@ -13,8 +13,8 @@ returns c =
     let at = under.before.before.before.args.at in
     haves (then (λ (u : View). laid (at - 5 + 262144) (read_from (at - 5) u)) under.lay-section.ensures.0 done.lay.ensures)
 
-pub call-spec : {M : Type 1} → statement M
-call-spec =
+pub call_spec : {M : Type 1} → statement M
+call_spec =
     tie.close
     (tie.spec (λ c κs. search rules) (λ c. search rules) (λ c. search rules) (λ c. search rules) (λ c. search rules) (λ c κs. search rules)
     (λ c. search rules) returns)

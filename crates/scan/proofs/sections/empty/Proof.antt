@@ -27,5 +27,5 @@ returns c =
     empty-called _ 0 _ _ (seen.is-empty-call.ensures called.before.before.if1.true _ (sym start.requires.0.sound.top))
     called.call.ensures
 
-pub empty-spec : {M : Type 1} → statement M
-empty-spec = tie.close (tie.spec (λ c κs. search rules) call-requires (λ c. search rules) returns (λ c. stops refl))
+pub empty_spec : {M : Type 1} → statement M
+empty_spec = tie.close (tie.spec (λ c κs. search rules) call-requires (λ c. search rules) returns (λ c. stops refl))

@@ -26,8 +26,8 @@ returns c =
       section-free g.0.sound g.1 popped.pop.ensures _ _ g.0.sound.apart done.lay.ensures,
     )
 
-pub lay-section-spec : {M : Type 1} → statement M
-lay-section-spec =
+pub lay_section_spec : {M : Type 1} → statement M
+lay_section_spec =
     tie.close
     (tie.spec (λ c. search rules) (λ c. search rules) (λ c. search rules) (λ c. search rules) (λ c. search rules) (λ c κs. search rules)
     lay-requires (λ c. search rules) returns)

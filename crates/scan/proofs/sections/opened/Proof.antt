@@ -34,8 +34,8 @@ returns-2 c =
     opened-call _ _ _ _ (else.before.is_plain.ensures _) else.if1.false (then.before.is-callable.ensures then.if2.true)
     called.call.ensures
 
-pub opened-spec : {M : Type 1} → statement M
-opened-spec =
+pub opened_spec : {M : Type 1} → statement M
+opened_spec =
     tie.close
     (tie.spec (λ c κs. search rules) (λ c κs. search rules) (λ c. search rules) returns (λ c κs. search rules) call-requires
     (λ c. search rules) returns-2 (λ c. stops refl))

@@ -35,8 +35,8 @@ returns-3 c =
 returns-4 : tie.Need-returns-4
 returns-4 c = stops c.before.before.before.before.settle.ensures.0.long
 
-pub opener-spec : {M : Type 1} → statement M
-opener-spec =
+pub opener_spec : {M : Type 1} → statement M
+opener_spec =
     tie.close
     (tie.spec (λ c. stops refl) (λ c. stops refl) settle-requires (λ c. search rules) opened-requires (λ c. search rules) returns-3
     (λ c. search rules) returns-4)

@@ -4,5 +4,5 @@ use borrow.Author.Rules.{rules}
 use Rattle.scan.proofs.sections.section.Statement.{statement}
 use Rattle.scan.proofs.sections.section.Tie as tie
 
-pub section-spec : {M : Type 1} → statement M
-section-spec = tie.close (tie.spec (λ c κs. search rules) (λ c. search rules) (λ c. haves c.before.before.lay-section.ensures.0))
+pub section_spec : {M : Type 1} → statement M
+section_spec = tie.close (tie.spec (λ c κs. search rules) (λ c. search rules) (λ c. haves c.before.before.lay-section.ensures.0))

@@ -16,5 +16,5 @@ returns c = end-done _ c.before.before.before.before.settle.ensures.0 c.if1.true
 returns-2 : tie.Need-returns-2
 returns-2 c = stops c.before.before.before.before.settle.ensures.0.long
 
-pub end-spec : {M : Type 1} → statement M
-end-spec = tie.close (tie.spec settle-requires (λ c. search rules) returns (λ c. search rules) returns-2)
+pub end_spec : {M : Type 1} → statement M
+end_spec = tie.close (tie.spec settle-requires (λ c. search rules) returns (λ c. search rules) returns-2)

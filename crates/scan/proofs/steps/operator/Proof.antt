@@ -21,8 +21,8 @@ returns-2 c =
     operator-waits _ _ _ _ over.before.before.before.settle.ensures.0 _ over.is-left-over.ensures else.if1.false
     c.before.before.push.ensures
 
-pub operator-spec : {M : Type 1} → statement M
-operator-spec =
+pub operator_spec : {M : Type 1} → statement M
+operator_spec =
     tie.close
     (tie.spec settle-requires (λ c κs. search rules) (λ c. search rules) returns (λ c. search rules) (λ c. search rules)
     (λ c κs. search rules) (λ c. search rules) returns-2)

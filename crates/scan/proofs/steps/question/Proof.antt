@@ -52,8 +52,8 @@ returns-2 c =
     question-asks _ _ asked.before.before.before.settle.ensures.0 _ asked.is-unpaired.ensures else.if1.false
     waited.wait2.ensures
 
-pub question-spec : {M : Type 1} → statement M
-question-spec =
+pub question_spec : {M : Type 1} → statement M
+question_spec =
     tie.close
     (tie.spec settle-requires (λ c κs. search rules) take-requires wait-requires (λ c. search rules) returns wait-requires-2
     (λ c. search rules) returns-2)

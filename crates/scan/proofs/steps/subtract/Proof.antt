@@ -23,5 +23,5 @@ returns c =
     let at = under.before.before.before.args.at in
     then-turn (operator_turn at 2013822976 2147483648) under.lay.ensures done.operator.ensures
 
-pub subtract-spec : {M : Type 1} → statement M
-subtract-spec = tie.close (tie.spec (λ c. search rules) (λ c. search rules) lay-requires operator-requires (λ c. search rules) returns)
+pub subtract_spec : {M : Type 1} → statement M
+subtract_spec = tie.close (tie.spec (λ c. search rules) (λ c. search rules) lay-requires operator-requires (λ c. search rules) returns)

@@ -37,5 +37,5 @@ returns-3 c =
     start.ranges.version)) in
     below-five start.args.version (sym (ap (is_from 5) same) ∙ (sym c.before.is-from-5.ensures ∙ c.if2.false))
 
-pub table-of-spec : {M : Type 1} → statement M
-table-of-spec = tie.close (tie.spec (λ c κs. search rules) (λ c κs. search rules) returns (λ c κs. search rules) returns-2 returns-3)
+pub table_of_spec : {M : Type 1} → statement M
+table_of_spec = tie.close (tie.spec (λ c κs. search rules) (λ c κs. search rules) returns (λ c κs. search rules) returns-2 returns-3)

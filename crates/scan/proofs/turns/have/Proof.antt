@@ -28,8 +28,8 @@ returns-3 c =
     have-next _ _ _ _ (λ e. omega arith) then.before.before.op-at.ensures.found (sym
     then.before.is-let.ensures ∙ then.if3.true) called.have-by.ensures
 
-pub have-spec : {M : Type 1} → statement M
-have-spec =
+pub have_spec : {M : Type 1} → statement M
+have_spec =
     tie.close
     (tie.spec (λ c. search rules) (λ c. stops refl) (λ c κs. search rules) (λ c. search rules) returns-2 (λ c. search rules)
     (λ c κs. search rules) (λ c κs. search rules) have-by-requires (λ c. search rules) returns-3 (λ c. stops refl))

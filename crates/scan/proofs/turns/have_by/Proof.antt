@@ -104,8 +104,8 @@ returns-6 c =
     have-class _ _ start.args.used _ _ start.requires.0.1 seen.entry_of.ensures 8 called.before.before.match.keys6
     called.operator2.ensures
 
-pub have-by-spec : {M : Type 1} → statement M
-have-by-spec =
+pub have_by_spec : {M : Type 1} → statement M
+have_by_spec =
     tie.close
     (tie.spec (λ c κs. search rules) (λ c. search rules) (λ c. search rules) (λ c. search rules) add-operator-2 operator-requires
     opener-requires (λ c κs. search rules) (λ c κs. search rules) (λ c κs. search rules) operator-requires-2 (λ c. search rules) returns

@@ -47,8 +47,8 @@ returns-3 c =
     other.if2.false
     (then.before.is-pair.ensures then.if3.true used) called.operator.ensures
 
-pub minus-spec : {M : Type 1} → statement M
-minus-spec =
+pub minus_spec : {M : Type 1} → statement M
+minus_spec =
     tie.close
     (tie.spec (λ c κs. search rules) (λ c κs. search rules) (λ c κs. search rules) (λ c. search rules) returns (λ c κs. search rules)
     (λ c. search rules) returns-2 (λ c κs. search rules) sub-operator operator-requires (λ c. search rules) returns-3

@@ -22,8 +22,8 @@ returns-3 c =
     want-next _ _ _ _ (λ e. omega arith) then.before.before.op-at.ensures.found (sym
     then.before.is-let.ensures ∙ then.if3.true) called.want-by.ensures
 
-pub want-spec : {M : Type 1} → statement M
-want-spec =
+pub want_spec : {M : Type 1} → statement M
+want_spec =
     tie.close
     (tie.spec (λ c. search rules) (λ c. stops refl) (λ c. stops refl) (λ c. search rules) (λ c κs. search rules) (λ c κs. search rules)
     want-by-requires (λ c. search rules) returns-3 (λ c. stops refl))

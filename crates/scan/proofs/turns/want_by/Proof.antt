@@ -31,8 +31,8 @@ returns-3 c =
     want-class _ _ start.args.used _ _ start.requires.0.1 seen.entry_of.ensures 5 called.before.before.match.keys3
     called.empty.ensures
 
-pub want-by-spec : {M : Type 1} → statement M
-want-by-spec =
+pub want_by_spec : {M : Type 1} → statement M
+want_by_spec =
     tie.close
     (tie.spec (λ c κs. search rules) (λ c κs. search rules) (λ c. search rules) (λ c κs. search rules) (λ c κs. search rules)
     (λ c. search rules) returns (λ c. search rules) returns-2 (λ c. search rules) returns-3 (λ c. stops refl))

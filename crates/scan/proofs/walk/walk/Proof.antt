@@ -24,8 +24,8 @@ returns c =
     asked.before.before.before.scanned.given.1 in
     has-emitted _ _ _ _ start.requires _ a.version _ _ k.2 k.1 k.0 _ _ done.emit.ensures.0 done.emit.ensures.1
 
-pub walk-spec : {M : Type 1} → statement M
-walk-spec =
+pub walk_spec : {M : Type 1} → statement M
+walk_spec =
     tie.close
     (tie.spec (λ c κs. search rules) (λ c. search rules) emit-requires (λ c. search rules) (λ c. search rules) (λ c. search rules) returns
     (λ c. search rules) (λ c. search rules))

@@ -35,7 +35,7 @@ returns-2 c =
     let at = c.before in
     sym (sym at.loop.invariant ∙ different-none at.before.before.args.alphabet.now at.loop.i c.loop-test.false)
 
-pub all-different-spec : {M : Type 1} → statement M
-all-different-spec =
+pub all_different_spec : {M : Type 1} → statement M
+all_different_spec =
     tie.close
     (tie.spec invariant-loop decreases-loop (λ c. refl) (λ c κs. search rules) returns (λ c. search rules) (λ c. search rules) loop-again returns-2)

@@ -33,8 +33,8 @@ returns-2 c =
     let at = c.before in
     sym (sym at.loop.invariant ∙ legal-none at.before.before.args.alphabet.now at.loop.i c.loop-test.false)
 
-pub all-legal-spec : {M : Type 1} → statement M
-all-legal-spec =
+pub all_legal_spec : {M : Type 1} → statement M
+all_legal_spec =
     tie.close
     (tie.spec invariant-loop decreases-loop (λ c. refl) (λ c. search needs) (λ c. search needs) (λ c κs. search needs) returns (λ c. search needs)
     (λ c. search needs) loop-again returns-2)

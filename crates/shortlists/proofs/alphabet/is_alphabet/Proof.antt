@@ -34,5 +34,5 @@ returns-4 c =
     )
     c.all-legal.ensures
 
-pub is-alphabet-spec : {M : Type 1} → statement M
-is-alphabet-spec = tie.close (tie.spec returns returns-2 (λ c κs. search needs) returns-3 (λ c κs. search needs) returns-4)
+pub is_alphabet_spec : {M : Type 1} → statement M
+is_alphabet_spec = tie.close (tie.spec returns returns-2 (λ c κs. search needs) returns-3 (λ c κs. search needs) returns-4)

@@ -35,8 +35,8 @@ returns-2 c =
     let list = a.alphabet.now in
     sym (sym at.loop.invariant ∙ among_none list at.loop.i c.loop-test.false (get_or list a.at 0))
 
-pub occurs-again-spec : {M : Type 1} → statement M
-occurs-again-spec =
+pub occurs_again_spec : {M : Type 1} → statement M
+occurs_again_spec =
     tie.close
     (tie.spec invariant-loop decreases-loop (λ c. search rules) (λ c. search rules) (λ c. search rules) (λ c. refl) (λ c. search rules)
     (λ c. search rules) returns (λ c. search rules) (λ c. search rules) loop-again returns-2)

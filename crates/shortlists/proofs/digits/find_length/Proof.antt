@@ -51,8 +51,8 @@ returns c =
     let at = c.before.loop in
     record { short = at.invariant.0; size = at.invariant.1; left = c.loop-test.false; whole = at.invariant.2 }
 
-pub find-length-spec : {M : Type 1} → statement M
-find-length-spec =
+pub find_length_spec : {M : Type 1} → statement M
+find_length_spec =
     tie.close
     (tie.spec invariant-loop decreases-loop (λ c. (omega arith, sym (pow-zero c.args.letters), omega (arith, powers-none c.args.letters)))
     mul-size (λ c. search rules) loop-less loop-again returns)

@@ -93,8 +93,8 @@ returns c =
       laying-last list standing.length _ at.size at.left at.words at.i at.invariant c.loop-test.false,
     )
 
-pub list-of-spec : {M : Type 1} → statement M
-list-of-spec =
+pub list_of_spec : {M : Type 1} → statement M
+list_of_spec =
     tie.close
     (tie.spec invariant-loop decreases-loop find-length-requires loop-holds div-size (λ c κs. (next c).some) (λ c. omega (arith, first c))
     (λ c. first c.before) (λ c. omega (arith, short c.before.before)) token-of-requires

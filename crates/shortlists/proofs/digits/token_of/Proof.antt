@@ -16,8 +16,8 @@ returns c =
     )
     (token-words a.letter a.i given.0 given.1)
 
-pub token-of-spec : {M : Type 1} → statement M
-token-of-spec =
+pub token_of_spec : {M : Type 1} → statement M
+token_of_spec =
     tie.close
     (tie.spec (λ c κs. search rules) (λ c κs. search rules) (λ c. search rules) (λ c κs. search rules) (λ c κs. search rules)
     (λ c κs. search rules) returns)

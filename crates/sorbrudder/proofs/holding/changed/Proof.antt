@@ -50,8 +50,8 @@ returns-3 c =
     let e = known.before.change3.given.1 in
     (number start e, c.put-held2.ensures ∙ held start e)
 
-pub changed-spec : {M : Type 1} → statement M
-changed-spec =
+pub changed_spec : {M : Type 1} → statement M
+changed_spec =
     tie.close
     (tie.spec (λ c. search rules) refusal-requires (λ c. search rules) (λ c κs. search rules) (λ c. search rules) (λ c κs. search rules)
     add-result returns returns-2 returns-3)

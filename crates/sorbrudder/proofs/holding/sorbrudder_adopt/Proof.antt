@@ -51,7 +51,7 @@ returns-2 c =
     λ tokens. adopt-made a.version.now a.edits.now a.to tokens _
     (ap adopt_of (sym known.before.adopted2.given.1) ∙ adopts made) (next-version c)
 
-pub sorbrudder-adopt-spec : {M : Type 1} → statement M
-sorbrudder-adopt-spec =
+pub sorbrudder_adopt_spec : {M : Type 1} → statement M
+sorbrudder_adopt_spec =
     tie.close
     (tie.spec (λ c κs. search rules) (λ c. search rules) refusal-requires (λ c. search rules) returns returns-2)

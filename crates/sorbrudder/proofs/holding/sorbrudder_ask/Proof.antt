@@ -37,7 +37,7 @@ returns c =
     asked-to start.args.tokens start.args.version start.args.words.now (the-edit start) (the_lent start) (asks asked)
     c.parsed-number.ensures
 
-pub sorbrudder-ask-spec : {M : Type 1} → statement M
-sorbrudder-ask-spec =
+pub sorbrudder_ask_spec : {M : Type 1} → statement M
+sorbrudder_ask_spec =
     tie.close
     (tie.spec (λ c κs. search rules) parsed-number-requires (λ c. search rules) (λ c. search rules) (λ c. search rules) returns)

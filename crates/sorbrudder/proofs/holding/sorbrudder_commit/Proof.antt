@@ -38,8 +38,8 @@ returns c =
     let committed = c.before.before.before.before.before.before.before.before.before.before.before.before in
     committed-to (commits committed) c.changed.ensures.0 (rw (to_z-of_z (entry committed).ranges.version) at c.changed.ensures.1)
 
-pub sorbrudder-commit-spec : {M : Type 1} → statement M
-sorbrudder-commit-spec =
+pub sorbrudder_commit_spec : {M : Type 1} → statement M
+sorbrudder_commit_spec =
     tie.close
     (tie.spec (λ c κs. search rules) changed-requires (λ c. search rules) (λ c. search rules) (λ c. search rules) (λ c. search rules)
     returns)

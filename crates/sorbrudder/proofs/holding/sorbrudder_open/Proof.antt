@@ -31,8 +31,8 @@ returns c =
     let opened = c.before.before.before.before.before.before.before.before.before.before.before.before in
     opened-to (opens opened) c.changed.ensures.0 c.changed.ensures.1
 
-pub sorbrudder-open-spec : {M : Type 1} → statement M
-sorbrudder-open-spec =
+pub sorbrudder_open_spec : {M : Type 1} → statement M
+sorbrudder_open_spec =
     tie.close
     (tie.spec (λ c κs. search rules) changed-requires (λ c. search rules) (λ c. search rules) (λ c. search rules) (λ c. search rules)
     returns)

@@ -48,8 +48,8 @@ returns-6 : tie.Need-returns-6
 returns-6 c =
     let is = ap (λ (l : Lot). lot_number (lot_told l)) c.before.before.lot6.given.1 in omega (arith, c.reason2.ensures, is)
 
-pub lifted-number-spec : {M : Type 1} → statement M
-lifted-number-spec =
+pub lifted_number_spec : {M : Type 1} → statement M
+lifted_number_spec =
     tie.close
     (tie.spec (λ c. search rules) (λ c. search rules) add-result (λ c. search rules) add-result-2 (λ c. search rules)
     (λ c κs. fits c.before.before.before c.before.lot4.given.1) (λ c. search rules)

@@ -36,8 +36,8 @@ returns c =
     let entered = c.before.before.before.before.before.before.before.before.before.before.before in
     lifted-to (enters entered) c.lifted-number.ensures
 
-pub sorbrudder-lift-spec : {M : Type 1} → statement M
-sorbrudder-lift-spec =
+pub sorbrudder_lift_spec : {M : Type 1} → statement M
+sorbrudder_lift_spec =
     tie.close
     (tie.spec (λ c κs. search rules) lifted-number-requires (λ c. search rules) (λ c. search rules) (λ c. search rules)
     (λ c. search rules) (λ c. search rules) returns)

@@ -25,8 +25,8 @@ returns c =
       rules = ruled.rules;
     }
 
-pub sorbrudder-parse-rules-spec : {M : Type 1} → statement M
-sorbrudder-parse-rules-spec =
+pub sorbrudder_parse_rules_spec : {M : Type 1} → statement M
+sorbrudder_parse_rules_spec =
     tie.close
     (tie.spec (λ c κs. search rules) parsed-number-requires (λ c. search rules) (λ c. search rules) (λ c. search rules) (λ c. search rules)
     returns)

@@ -41,8 +41,8 @@ returns-3 c =
     ∙ not-false _ c.before.before.before.before.before.if1.false)
     (omega (arith, asked)))
 
-pub continues-spec : {M : Type 1} → statement M
-continues-spec =
+pub continues_spec : {M : Type 1} → statement M
+continues_spec =
     tie.close
     (tie.spec (λ c κs. search needs) returns (λ c κs. search needs) returns-2 (λ c κs. search needs) (λ c κs. search needs)
     least-nodes-requires returns-3)

@@ -19,8 +19,8 @@ returns-2 c =
     λ begun. not-count (λ f. a.done ≡ (stack_after (field_of f) a.w (stack a.done begun)).done) refl refl refl refl refl refl
     a.field c.match.keys2
 
-pub done-after-spec : {M : Type 1} → statement M
-done-after-spec =
+pub done_after_spec : {M : Type 1} → statement M
+done_after_spec =
     tie.close
     (tie.spec (λ c. search rules) (λ c κs. search rules) sub-result (λ c. search rules)
     (λ c. unfold stack_after in λ begun. rw (c.before.enum_told.given.1, c.low.ensures, add-one)) returns-2)

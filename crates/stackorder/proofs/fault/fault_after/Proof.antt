@@ -56,8 +56,8 @@ returns-3 c =
     fault-end stack_walk _ _ _ _ (stack h.loop.done h.loop.begun) h.loop.invariant.same c.before.before.loop-test.false
     (sym (c.before.is_one.ensures h.loop.begun) ∙ c.if2.false)
 
-pub fault-after-spec : {M : Type 1} → statement M
-fault-after-spec =
+pub fault_after_spec : {M : Type 1} → statement M
+fault_after_spec =
     tie.close
     (tie.spec invariant-loop decreases-loop (λ c. c.before.requires) (λ c. search needs) (λ c. search needs)
     (λ c κs. let inv = c.before.before.loop.invariant in (omega (arith, inv.enough), inv.few)) returns (λ c κs. search needs)

@@ -13,5 +13,5 @@ returns-2 c =
     let a = c.before.args in
     λ begun. not-operator (λ f. false ≡ is_one_stack (field_of f) (stack a.done begun)) refl refl refl refl refl refl a.field c.match.keys2
 
-pub is-one-spec : {M : Type 1} → statement M
-is-one-spec = tie.close (tie.spec (λ c. search rules) (λ c. unfold is_one_stack in λ begun. rw c.enum_told.given.1) returns-2)
+pub is_one_spec : {M : Type 1} → statement M
+is_one_spec = tie.close (tie.spec (λ c. search rules) (λ c. unfold is_one_stack in λ begun. rw c.enum_told.given.1) returns-2)

@@ -25,5 +25,5 @@ returns-3 c =
     let a = c.before.before.args in
     not-count (λ f. a.begun ≡ least_nodes (field_of f) (stack a.done a.begun)) refl refl refl refl refl refl a.field c.match.keys2
 
-pub least-nodes-spec : {M : Type 1} → statement M
-least-nodes-spec = tie.close (tie.spec returns (λ c. search rules) (λ c. search rules) returns-2 returns-3)
+pub least_nodes_spec : {M : Type 1} → statement M
+least_nodes_spec = tie.close (tie.spec returns (λ c. search rules) (λ c. search rules) returns-2 returns-3)

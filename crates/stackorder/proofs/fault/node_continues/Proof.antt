@@ -15,8 +15,8 @@ returns-3 c =
       room = omega (arith, judged.before.if1.false);
     }
 
-pub node-continues-spec : {M : Type 1} → statement M
-node-continues-spec =
+pub node_continues_spec : {M : Type 1} → statement M
+node_continues_spec =
     tie.close
     (tie.spec (λ c. search needs) (λ c. λ e. absurd (false≢true e)) (λ c κs. search needs) (λ c. λ e. absurd (false≢true e))
     (λ c. search needs) (λ c. search needs) (λ c. search needs) (λ c κs. search needs) returns-3)

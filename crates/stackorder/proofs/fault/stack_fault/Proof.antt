@@ -4,5 +4,5 @@ use borrow.Author.Rules.{rules}
 use Rattle.stackorder.proofs.fault.stack_fault.Statement.{statement}
 use Rattle.stackorder.proofs.fault.stack_fault.Tie as tie
 
-pub stack-fault-spec : {M : Type 1} → statement M
-stack-fault-spec = tie.close (tie.spec (λ c κs. search rules) (λ c κs. c.whole-nodes.ensures) (λ c. c.fault-after.ensures))
+pub stack_fault_spec : {M : Type 1} → statement M
+stack_fault_spec = tie.close (tie.spec (λ c κs. search rules) (λ c κs. c.whole-nodes.ensures) (λ c. c.fault-after.ensures))

@@ -12,8 +12,8 @@ returns-2 c =
     let a = c.before.args in
     not-count (λ f. 0 ≡ trees_asked (field_of f) a.w) refl refl refl refl refl refl a.field c.match.keys2
 
-pub trees-asked-spec : {M : Type 1} → statement M
-trees-asked-spec =
+pub trees_asked_spec : {M : Type 1} → statement M
+trees_asked_spec =
     tie.close
     (tie.spec (λ c. search rules) (λ c κs. search rules) (λ c. unfold trees_asked in rw c.before.enum_told.given.1 c.low.ensures)
     returns-2)

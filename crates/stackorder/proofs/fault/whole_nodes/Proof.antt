@@ -32,8 +32,8 @@ loop-again c =
     (judged.node-continues.ensures (not-false _ c.before.before.if1.false))
     (omega (arith, c.low.ensures))
 
-pub whole-nodes-spec : {M : Type 1} → statement M
-whole-nodes-spec =
+pub whole_nodes_spec : {M : Type 1} → statement M
+whole_nodes_spec =
     tie.close
     (tie.spec invariant-loop decreases-loop (λ c. stacked-start c.before.args.words.now) (λ c. omega (arith, c.loop.invariant.within))
     (λ c κs. omega (arith, c.before.loop.invariant.within)) (λ c. c.before.before.before.loop.invariant) (λ c. search needs)

@@ -13,5 +13,5 @@ returns c = ap (λ (f : Fault). with_number c.before.before.before.args.number (
 returns-2 : tie.Need-returns-2
 returns-2 c = ap (λ (f : Fault). with_number c.before.before.args.number (place_of f)) (sym c.enum_told.given.1)
 
-pub numbered-spec : {M : Type 1} → statement M
-numbered-spec = tie.close (tie.spec (λ c. search rules) (λ c. search rules) returns returns-2)
+pub numbered_spec : {M : Type 1} → statement M
+numbered_spec = tie.close (tie.spec (λ c. search rules) (λ c. search rules) returns returns-2)

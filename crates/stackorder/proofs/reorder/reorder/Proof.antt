@@ -60,8 +60,8 @@ returns c =
     let g : CanReorder start.args.direction start.args.words.now start.args.output.now = record { one = t; room = room } in
     ends g (starts at.before.before) (lasts at.before.before) at.before.next.ensures (at.loop.invariant g) c.if1.false
 
-pub reorder-spec : {M : Type 1} → statement M
-reorder-spec =
+pub reorder_spec : {M : Type 1} → statement M
+reorder_spec =
     tie.close
     (tie.spec invariant-loop decreases-loop (λ c κs. search rules) (λ c κs. search rules) (λ c κs. search rules)
     (λ c κs. last_within c.before.before.before.before.before.requires (starts c) (lasts c) refl)

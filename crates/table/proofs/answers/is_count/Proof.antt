@@ -19,5 +19,5 @@ returns-2 c =
     let read = c.before in
     rw (is_count, ← read.at.ensures, ne_eqb read.before.before.args.mark read.at.result c.if1.false)
 
-pub is-count-spec : {M : Type 1} → statement M
-is-count-spec = tie.close (tie.spec (λ c κs. search needs) (λ c κs. search needs) returns returns-2)
+pub is_count_spec : {M : Type 1} → statement M
+is_count_spec = tie.close (tie.spec (λ c κs. search needs) (λ c κs. search needs) returns returns-2)

@@ -35,7 +35,7 @@ returns-3 c =
     )
     c.holds3.ensures
 
-pub is-left-spec : {M : Type 1} → statement M
-is-left-spec =
+pub is_left_spec : {M : Type 1} → statement M
+is_left_spec =
     tie.close
     (tie.spec (λ c κs. search needs) returns (λ c κs. search needs) returns-2 (λ c κs. search needs) (λ c κs. search needs) returns-3)

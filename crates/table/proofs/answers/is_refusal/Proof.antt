@@ -38,7 +38,7 @@ returns-3 c =
       ne_eqb marked.before.before.args.number numbered.at2.result c.if2.false,
     )
 
-pub is-refusal-spec : {M : Type 1} → statement M
-is-refusal-spec =
+pub is_refusal_spec : {M : Type 1} → statement M
+is_refusal_spec =
     tie.close
     (tie.spec (λ c κs. search needs) returns (λ c κs. search needs) (λ c κs. search needs) (λ c κs. search needs) returns-2 returns-3)

@@ -11,5 +11,5 @@ returns c = unfold kept_word in rw (kept_word, ← c.before.at.ensures, eq-eqb c
 returns-2 : tie.Need-returns-2
 returns-2 c = unfold kept_word in rw (kept_word, ← c.before.at.ensures, ne_eqb c.before.at.result refused_mark c.if1.false)
 
-pub kept-word-spec : {M : Type 1} → statement M
-kept-word-spec = tie.close (tie.spec (λ c κs. search needs) returns returns-2)
+pub kept_word_spec : {M : Type 1} → statement M
+kept_word_spec = tie.close (tie.spec (λ c κs. search needs) returns returns-2)

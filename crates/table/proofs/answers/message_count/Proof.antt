@@ -17,5 +17,5 @@ returns-2 c =
     let said = c.before.before.before.args.said.now in
     rw (message_count, second_at, ← c.before.next-mark.ensures.0, le-ltb c.before.next-mark.result (length said) c.if1.false)
 
-pub message-count-spec : {M : Type 1} → statement M
-message-count-spec = tie.close (tie.spec (λ c κs. search needs) returns returns-2)
+pub message_count_spec : {M : Type 1} → statement M
+message_count_spec = tie.close (tie.spec (λ c κs. search needs) returns returns-2)

@@ -10,8 +10,8 @@ unfolding first_version
 returns-2 c =
     rw (first_version, ne_eqb c.before.before.args.mark any_mark c.before.if1.false) c.last-version.ensures.0
 
-pub first-version-spec : {M : Type 1} → statement M
-first-version-spec =
+pub first_version_spec : {M : Type 1} → statement M
+first_version_spec =
     tie.close
     (tie.spec (λ c. unfold first_version in rw (first_version, eq-eqb c.before.args.mark any_mark c.if1.true))
     (λ c κs. search needs) returns-2)

@@ -22,5 +22,5 @@ returns-3 c =
     let mark = c.before.before.args.mark in
     (rw (last_version, lt-leb within_mark mark c.before.if1.false, lt-leb at_mark mark c.if2.false) refl, omega arith)
 
-pub last-version-spec : {M : Type 1} → statement M
-last-version-spec = tie.close (tie.spec returns returns-2 returns-3)
+pub last_version_spec : {M : Type 1} → statement M
+last_version_spec = tie.close (tie.spec returns returns-2 returns-3)

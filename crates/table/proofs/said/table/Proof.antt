@@ -14,5 +14,5 @@ unfolding items_of marks_of answers_of lines_of version_of decimal_in decimal nu
     read_within_text read_at_all_text writing_text asked_text line_text lines_text table_text
 returns c = refl
 
-pub table-spec : {M : Type 1} → statement M
-table-spec = tie.close (tie.spec returns)
+pub table_spec : {M : Type 1} → statement M
+table_spec = tie.close (tie.spec returns)

@@ -65,8 +65,8 @@ returns-2 c =
     let read = read-list.read-list.ensures in
     (rw (fault, answered) at read.0, (rw (fault, answered) at read.1.0, rw (fault, answered) at read.1.1.0))
 
-pub answer-spec : {M : Type 1} → statement M
-answer-spec =
+pub answer_spec : {M : Type 1} → statement M
+answer_spec =
     tie.close
     (tie.spec (λ c. search rules) (λ c κs. search rules) (λ c. search rules) (λ c. search rules) (λ c κs. (counts c).3)
     (λ c. omega (arith, counts c.before)) (λ c. search rules) (λ c. search rules) (λ c. omega (arith, counts c.before))

@@ -37,8 +37,8 @@ returns-6 c =
       (refl, omega arith, c.before.if4.false, omega arith),
     )
 
-pub asked-spec : {M : Type 1} → statement M
-asked-spec =
+pub asked_spec : {M : Type 1} → statement M
+asked_spec =
     tie.close
     (tie.spec (λ c. (turned-part c.before.args.bytes c.before.args.first c.if1.true, tt))
     (λ c. (rw c.if2.true (turned-empty c.before.before.args.first), tt)) returns-3 (λ c. search rules) returns-4 returns-5

@@ -55,8 +55,8 @@ loop-again-2 c =
     let head = view.before.before in
     holding-below head.before.before.requires head.loop.invariant view.before.loop-test.true view.view-node.ensures c.if1.false
 
-pub holds-statements-spec : {M : Type 1} → statement M
-holds-statements-spec =
+pub holds_statements_spec : {M : Type 1} → statement M
+holds_statements_spec =
     tie.close
     (tie.spec invariant-loop decreases-loop (λ c. holding-begins c.before.requires)
     (λ c κs. holding-room c.before.before.before.requires c.before.loop.invariant c.loop-test.true) returns loop-less loop-again

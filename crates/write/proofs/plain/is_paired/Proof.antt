@@ -18,8 +18,8 @@ returns-6 : tie.Need-returns-6
 unfolding is_paired is_bracket
 returns-6 c = rw (operand-unspared _ _ c.match.keys4, ne_eqb _ 0 c.before.before.if1.false, ne_eqb _ 4 c.before.if2.false)
 
-pub is-paired-spec : {M : Type 1} → statement M
-is-paired-spec =
+pub is_paired_spec : {M : Type 1} → statement M
+is_paired_spec =
     tie.close
     (tie.spec (λ c. unfold is_paired is_bracket in rw (eq-eqb _ 0 c.if1.true))
     (λ c. unfold is_paired is_bracket in rw (ne_eqb _ 0 c.before.if1.false, eq-eqb _ 4 c.if2.true)) (λ c. search needs)

@@ -9,8 +9,8 @@ returns-4 c =
     let a = c.before.args in
     over-many a.seat a.op a.children a.first c.match.rest.0.0.1 c.match.rest.0.1 c.match.rest.1
 
-pub is-plain-spec : {M : Type 1} → statement M
-is-plain-spec =
+pub is_plain_spec : {M : Type 1} → statement M
+is_plain_spec =
     tie.close
     (tie.spec (λ c κs. search rules) (λ c κs. search rules) (λ c κs. search rules)
     (λ c. unfold plain_by in rw c.before.match.keys1 c.is-plain-without-children.ensures)

@@ -25,8 +25,8 @@ returns-4 c =
     rw (ne_eqb n 9 a.0, ne_eqb n 20 a.1.0, ne_eqb n 31 a.1.1.0, ne_eqb n 75 a.1.1.1.0, lt-leb n 59 (omega arith))
     (simp and-false)
 
-pub is-plain-binary-spec : {M : Type 1} → statement M
-is-plain-binary-spec =
+pub is_plain_binary_spec : {M : Type 1} → statement M
+is_plain_binary_spec =
     tie.close
     (tie.spec returns
     (λ c. unfold is_plain_binary between in true-at is_plain_binary 50 10 tt c.before.before.before.args.op (omega arith) (omega arith))

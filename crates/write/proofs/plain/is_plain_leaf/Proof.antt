@@ -75,8 +75,8 @@ returns-11 : tie.Need-returns-11
 unfolding is_plain_leaf between
 returns-11 c = true-at is_plain_leaf 61 2 tt c.before.before.before.before.before.before.before.args.op (omega arith) (omega arith)
 
-pub is-plain-leaf-spec : {M : Type 1} → statement M
-is-plain-leaf-spec =
+pub is_plain_leaf_spec : {M : Type 1} → statement M
+is_plain_leaf_spec =
     tie.close
     (tie.spec (λ c. unfold is_plain_leaf between in rw c.match.keys1) returns-2 returns-3 returns-4 returns-5 returns-6 returns-7
     returns-8 returns-9 (λ c. unfold is_plain_leaf between in rw c.match.keys2) returns-11)

@@ -22,8 +22,8 @@ returns-4 c =
     rw (sym prefix.is-prefix.ensures ∙ c.before.before.if1.false, ne_eqb _ 74 other.0.1, ne_eqb _ 73 other.1, or-false)
     c.is-call-over.ensures
 
-pub is-plain-over-one-spec : {M : Type 1} → statement M
-is-plain-over-one-spec =
+pub is_plain_over_one_spec : {M : Type 1} → statement M
+is_plain_over_one_spec =
     tie.close
     (tie.spec (λ c κs. search needs) (λ c. unfold plain_by in rw (sym c.before.is-prefix.ensures ∙ c.if1.true))
     (λ c κs. search needs) (λ c κs. search needs) (λ c κs. search needs) returns-2 returns-3 returns-4)

@@ -14,8 +14,8 @@ unfolding plain_by
 returns-3 c =
     rw (ne_eqb _ 60 c.before.before.if1.false, ne_eqb _ 71 c.before.if2.false, or-false, or-false) c.is-plain-binary.ensures
 
-pub is-plain-over-two-spec : {M : Type 1} → statement M
-is-plain-over-two-spec =
+pub is_plain_over_two_spec : {M : Type 1} → statement M
+is_plain_over_two_spec =
     tie.close
     (tie.spec (λ c κs. search needs) returns (λ c κs. search needs)
     (λ c. unfold plain_by is_plain_binary between in rw c.before.if2.true c.is-under-semicolon.ensures) (λ c κs. search needs)

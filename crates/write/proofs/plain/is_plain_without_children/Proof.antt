@@ -9,8 +9,8 @@ use Rattle.write.proofs.plain.is_plain_without_children.Tie as tie
 returns-2 : tie.Need-returns-2
 returns-2 c = unfold plain_by is_bracket in rw (ne_eqb _ 4 c.before.if1.false, or-false) c.is-plain-leaf.ensures
 
-pub is-plain-without-children-spec : {M : Type 1} → statement M
-is-plain-without-children-spec =
+pub is_plain_without_children_spec : {M : Type 1} → statement M
+is_plain_without_children_spec =
     tie.close
     (tie.spec (λ c κs. search needs)
     (λ c. unfold plain_by is_plain_leaf is_host is_bracket between in rw c.before.if1.true c.is-under-math-call.ensures)

@@ -22,5 +22,5 @@ returns-2 c =
 returns-4 : tie.Need-returns-4
 returns-4 c = unfold is_prefix is_one_of any in true-at is_prefix 6 2 tt c.before.before.before.args.op (omega arith) (omega arith)
 
-pub is-prefix-spec : {M : Type 1} → statement M
-is-prefix-spec = tie.close (tie.spec returns returns-2 (λ c. unfold is_prefix is_one_of any in rw c.match.keys1) returns-4)
+pub is_prefix_spec : {M : Type 1} → statement M
+is_prefix_spec = tie.close (tie.spec returns returns-2 (λ c. unfold is_prefix is_one_of any in rw c.match.keys1) returns-4)

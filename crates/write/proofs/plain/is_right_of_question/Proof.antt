@@ -4,8 +4,8 @@ use Rattle.write.proofs.{CaseLaws.{not-right-of-question}, plain.is_right_of_que
 use borrow.Author.Rules.{rules}
 use Rattle.write.proofs.plain.is_right_of_question.Tie as tie
 
-pub is-right-of-question-spec : {M : Type 1} → statement M
-is-right-of-question-spec =
+pub is_right_of_question_spec : {M : Type 1} → statement M
+is_right_of_question_spec =
     tie.close
     (tie.spec (λ c. search rules) (λ c. unfold is_right_of_question in rw c.enum_told.given.1)
     (λ c. not-right-of-question c.before.args.seat c.match.keys2))

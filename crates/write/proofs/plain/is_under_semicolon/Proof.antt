@@ -4,8 +4,8 @@ use Rattle.write.proofs.{CaseLaws.{not-under-semicolon}, plain.is_under_semicolo
 use borrow.Author.Rules.{rules}
 use Rattle.write.proofs.plain.is_under_semicolon.Tie as tie
 
-pub is-under-semicolon-spec : {M : Type 1} → statement M
-is-under-semicolon-spec =
+pub is_under_semicolon_spec : {M : Type 1} → statement M
+is_under_semicolon_spec =
     tie.close
     (tie.spec (λ c. search rules) (λ c. unfold is_under_semicolon in rw c.enum_told.given.1)
     (λ c. not-under-semicolon c.before.args.seat c.match.keys2))

@@ -28,8 +28,8 @@ judge-from-requires-2 c κs =
           (sym held.holds-statements.ensures ∙ not-false _ c.before.before.if2.false)),
     )
 
-pub judge-spec : {M : Type 1} → statement M
-judge-spec =
+pub judge_spec : {M : Type 1} → statement M
+judge_spec =
     tie.close
     (tie.spec (λ c. omega (arith, shaped-room c.before.before.requires.shaped)) (λ c κs. search needs) judge-from-requires
     (λ c. c.judge-from.ensures) (λ c κs. c.before.before.before.before.requires) returns-2

@@ -106,8 +106,8 @@ loop-again-3 c =
       carried judged.before.before,
     )
 
-pub judge-from-spec : {M : Type 1} → statement M
-judge-from-spec =
+pub judge_from_spec : {M : Type 1} → statement M
+judge_from_spec =
     tie.close
     (tie.spec invariant-loop decreases-loop (λ c. search needs) (λ c. omega (arith, begins-early c.before.requires.1)) (λ c κs. search needs)
     (λ c. (judging-begins c.before.before.requires.0 c.before.before.requires.1, c.operator-at.ensures)) (λ c κs. (room c).0)

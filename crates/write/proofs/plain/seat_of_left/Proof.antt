@@ -4,8 +4,8 @@ use Rattle.write.specs.Seats.{left_seat}
 use Rattle.write.proofs.plain.seat_of_left.Statement.{statement}
 use Rattle.write.proofs.plain.seat_of_left.Tie as tie
 
-pub seat-of-left-spec : {M : Type 1} → statement M
-seat-of-left-spec =
+pub seat_of_left_spec : {M : Type 1} → statement M
+seat_of_left_spec =
     tie.close
     (tie.spec (λ c. unfold left_seat in rw (eq-eqb _ 75 c.if1.true, left_seat))
     (λ c. unfold left_seat in rw (ne_eqb _ 75 c.if1.false, left_seat)))

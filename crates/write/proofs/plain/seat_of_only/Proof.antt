@@ -14,7 +14,7 @@ returns-3 : tie.Need-returns-3
 unfolding only_seat is_bracket
 returns-3 c = rw (ne_eqb _ 4 c.before.before.if1.false, sym c.before.is-math-call.ensures ∙ c.if2.false, only_seat)
 
-pub seat-of-only-spec : {M : Type 1} → statement M
-seat-of-only-spec =
+pub seat_of_only_spec : {M : Type 1} → statement M
+seat_of_only_spec =
     tie.close
     (tie.spec (λ c. unfold only_seat is_bracket in rw (eq-eqb _ 4 c.if1.true, only_seat)) (λ c κs. search needs) returns-2 returns-3)

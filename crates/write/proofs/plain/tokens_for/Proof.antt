@@ -16,8 +16,8 @@ returns-2 : tie.Need-returns-2
 unfolding tokens_for is_bracket
 returns-2 c = rw (ne_eqb _ 4 c.before.before.if1.false, sym c.before.is-paired.ensures ∙ c.if2.true)
 
-pub tokens-for-spec : {M : Type 1} → statement M
-tokens-for-spec =
+pub tokens_for_spec : {M : Type 1} → statement M
+tokens_for_spec =
     tie.close
     (tie.spec returns (λ c κs. search needs) returns-2
     (λ c. unfold tokens_for is_bracket in rw (ne_eqb _ 4 c.before.before.if1.false, sym c.before.is-paired.ensures ∙ c.if2.false)))

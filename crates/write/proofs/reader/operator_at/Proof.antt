@@ -9,5 +9,5 @@ use Rattle.write.proofs.reader.operator_at.Tie as tie
 returns-2 : tie.Need-returns-2
 returns-2 c = unfold operator_of low_of number_in in rw (get_or-eq_default c.before.before.args.words.now 0 c.if1.false)
 
-pub operator-at-spec : {M : Type 1} → statement M
-operator-at-spec = tie.close (tie.spec (λ c. search rules) (λ c. search rules) (λ c κs. search rules) (λ c. search rules) returns-2)
+pub operator_at_spec : {M : Type 1} → statement M
+operator_at_spec = tie.close (tie.spec (λ c. search rules) (λ c. search rules) (λ c κs. search rules) (λ c. search rules) returns-2)

@@ -225,9 +225,9 @@ view-meets {𝓤 = 𝓤} 𝓛 mem run 𝓣 known-new known_next =
     (view.clauses 𝓛 mem run) (WpFn 𝓤 𝓛.H 𝓣.C 𝓣.Λ code.function) (WpFn-mono 𝓤 𝓛.H 𝓛.laws 𝓣 code.function)
     (view-walks 𝓛 mem run 𝓣.C 𝓣.Λ (fm_of 𝓤 𝓛.H 𝓛.laws 𝓣) known-new known_next)
 
-pub view-node-spec : {M : Type 1} → stated.statement M
+pub view_node_spec : {M : Type 1} → stated.statement M
 unfolding code.routine tables_of
-view-node-spec 𝓤 𝓛 𝓜 𝓡 =
+view_node_spec 𝓤 𝓛 𝓜 𝓡 =
     entered 𝓤 𝓛.H (triple_of 𝓛 view.signature (view.spec 𝓛 𝓜.mem 𝓡.run))
     (tables 𝓤 𝓛.H 𝓜 𝓡 code.env).C (tables 𝓤 𝓛.H 𝓜 𝓡 code.env).Λ #view-node code.function (code.unfolded 𝓤 𝓛.H 𝓜 𝓡)
     (view-meets (given_of 𝓛 𝓜) 𝓜.mem 𝓡.run (tables_of 𝓤 𝓛.H 𝓜 (tables 𝓤 𝓛.H 𝓜 𝓡 code.env))

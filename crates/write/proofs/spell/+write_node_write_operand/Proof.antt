@@ -647,8 +647,8 @@ write-operand-returns-3 t c =
     in
     (spans, writes)
 
-pub +write-node-write-operand-spec : {M : Type 1} → statement M
-+write-node-write-operand-spec =
+pub +write_node_write_operand_spec : {M : Type 1} → statement M
++write_node_write_operand_spec =
     close μ-write-node μ-write-operand
     (λ t.
     write-node-lts.spec (node-calls t) (write-node-at t) write-node.Post write-node-Inv-loop write-node-μ-loop

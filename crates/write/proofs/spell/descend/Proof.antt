@@ -69,8 +69,8 @@ loop-again c =
     let on = first_child head.loop.invariant.0 (λ e. turn.loop-test.true (head.loop.invariant.1 ∙ e)) in
     (rw c.before.before.front_at.ensures on, c.low2.ensures)
 
-pub descend-spec : {M : Type 1} → statement M
-descend-spec =
+pub descend_spec : {M : Type 1} → statement M
+descend_spec =
     tie.close
     (tie.spec invariant-loop decreases-loop (λ c. omega (arith, (opens-with c.before.before.requires).long)) (λ c κs. search rules)
     (λ c. (the_root, c.low.ensures)) front-at-requires add-front add-node add_low mul_low shared-slice-read-low-2 (λ c κs. search rules)

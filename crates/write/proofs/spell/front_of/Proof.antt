@@ -4,8 +4,8 @@ use Rattle.write.specs.Spine.{front_of}
 use Rattle.write.proofs.spell.front_of.Statement.{statement}
 use Rattle.write.proofs.spell.front_of.Tie as tie
 
-pub front-of-spec : {M : Type 1} → statement M
-front-of-spec =
+pub front_of_spec : {M : Type 1} → statement M
+front_of_spec =
     tie.close
     (tie.spec (λ c. unfold front_of in rw (eq-eqb _ 1 c.before.if1.true, c.if2.true))
     (λ c. unfold front_of in rw (eq-eqb _ 1 c.before.if1.true, c.if2.false))

@@ -14,8 +14,8 @@ returns c =
       ← c.before.low2.ensures,
     ) c.is-first-paired.ensures
 
-pub has-pair-spec : {M : Type 1} → statement M
-has-pair-spec =
+pub has_pair_spec : {M : Type 1} → statement M
+has_pair_spec =
     tie.close
     (tie.spec (λ c. search rules) (λ c. search rules) (λ c. search rules) (λ c κs. search rules) (λ c. search rules) (λ c. search rules)
     (λ c. search rules) (λ c κs. search rules) (λ c. search rules) (λ c. search rules) (λ c κs. search rules) (λ c. search rules)

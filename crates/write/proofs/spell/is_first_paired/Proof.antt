@@ -30,8 +30,8 @@ returns-5 c =
       only-spares,
     )
 
-pub is-first-paired-spec : {M : Type 1} → statement M
-is-first-paired-spec =
+pub is_first_paired_spec : {M : Type 1} → statement M
+is_first_paired_spec =
     tie.close
     (tie.spec (λ c. rw (leaf-unpaired _ _ _ c.if1.true))
     (λ c. unfold is_bracket in rw (bracket-unpaired _ _ _ (eq-eqb _ 4 c.if2.true))) returns-3 returns-4 returns-5)

@@ -23,5 +23,5 @@ returns c =
 returns-2 : tie.Need-returns-2
 returns-2 c = (c.before.has-pair.ensures, rw (sym c.before.has-pair.ensures ∙ c.if1.false) (refl, omega arith))
 
-pub pair-first-spec : {M : Type 1} → statement M
-pair-first-spec = tie.close (tie.spec (λ c κs. search rules) sub-opener put-pair-requires (λ c. search rules) returns returns-2)
+pub pair_first_spec : {M : Type 1} → statement M
+pair_first_spec = tie.close (tie.spec (λ c κs. search rules) sub-opener put-pair-requires (λ c. search rules) returns returns-2)

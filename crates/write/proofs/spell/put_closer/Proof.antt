@@ -28,8 +28,8 @@ returns-2 c =
     let closer = no-closer a.words.now (λ e. c.if1.false (c.before.operator.ensures ∙ e)) in
     (rw closer (none-laid a.to.now a.list.now), rw closer (sym (add-zero a.to.now)))
 
-pub put-closer-spec : {M : Type 1} → statement M
-put-closer-spec =
+pub put_closer_spec : {M : Type 1} → statement M
+put_closer_spec =
     tie.close
     (tie.spec (λ c. search rules) (λ c κs. search rules) (λ c. search rules) (λ c κs. search rules) put-requires (λ c. search rules)
     returns returns-2)

@@ -10,7 +10,7 @@ returns c =
     let opens = rw opener.before.before.spanning.ensures at opener.lay.ensures in
     (rw (put.before.spanning2.ensures, opens) at put.put.ensures.0, put.put.ensures.1)
 
-pub put-pair-spec : {M : Type 1} → statement M
-put-pair-spec =
+pub put_pair_spec : {M : Type 1} → statement M
+put_pair_spec =
     tie.close
     (tie.spec (λ c κs. search rules) (λ c κs. search rules) (λ c κs. search rules) (λ c κs. search rules) (λ c. search rules) returns)

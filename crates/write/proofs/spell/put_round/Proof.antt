@@ -12,5 +12,5 @@ returns c =
     let laid = rw token.before.before.at.ensures at token.lay.ensures in
     (rw laid at c.before.before.put-closer.ensures.0, c.before.before.put-closer.ensures.1)
 
-pub put-round-spec : {M : Type 1} → statement M
-put-round-spec = tie.close (tie.spec (λ c κs. search rules) (λ c κs. search rules) (λ c κs. search rules) (λ c. search rules) returns)
+pub put_round_spec : {M : Type 1} → statement M
+put_round_spec = tie.close (tie.spec (λ c κs. search rules) (λ c κs. search rules) (λ c κs. search rules) (λ c. search rules) returns)

@@ -10,5 +10,5 @@ returns c =
     let put = c.before.before in
     (rw put.before.at.ensures at put.put.ensures.0, put.put.ensures.1)
 
-pub put-token-spec : {M : Type 1} → statement M
-put-token-spec = tie.close (tie.spec (λ c κs. search rules) (λ c κs. search rules) (λ c. search rules) returns)
+pub put_token_spec : {M : Type 1} → statement M
+put_token_spec = tie.close (tie.spec (λ c κs. search rules) (λ c κs. search rules) (λ c. search rules) returns)

@@ -10,7 +10,7 @@ returns c =
     let end = c.before.before.end-word in
     rw (op.ensures, start.ensures, end.ensures, c.before.upper-word.ensures, c.lower_word.ensures)
 
-pub spanning-spec : {M : Type 1} → statement M
-spanning-spec =
+pub spanning_spec : {M : Type 1} → statement M
+spanning_spec =
     tie.close
     (tie.spec (λ c κs. search rules) (λ c κs. search rules) (λ c κs. search rules) (λ c κs. search rules) (λ c κs. search rules) returns)

@@ -63,8 +63,8 @@ returns c =
     in
     (spans, writes)
 
-pub write-leaf-spec : {M : Type 1} → statement M
-write-leaf-spec =
+pub write_leaf_spec : {M : Type 1} → statement M
+write_leaf_spec =
     tie.close
     (tie.spec (λ c. let start = c.before.before.before.before.before in omega (arith, node-long start.requires.0))
     shared-slice-read-widen-2 (λ c κs. search rules) put-token-requires put-closer-requires slice-aggregate-result same_length returns)

@@ -35,8 +35,8 @@ returns c =
     statement-writes start.requires node.write-node.ensures.1
     (rw (put.before.bare.ensures, put.before.before.at.ensures) at put.put.ensures)
 
-pub write-statement-spec : {M : Type 1} → statement M
-write-statement-spec =
+pub write_statement_spec : {M : Type 1} → statement M
+write_statement_spec =
     tie.close
     (tie.spec (λ c. statement-long c.before.before.requires) (λ c. statement-long c.before.before.requires) (λ c. omega arith)
     (λ c κs. held-room c.before.before.before.before.before.before.before.requires) at-requires (λ c κs. search rules) put-requires

@@ -40,8 +40,8 @@ loop-again c =
     let e = written.write-statement.ensures in
     stating-on turn.before.loop.invariant turn.loop-test.true e.0 e.1
 
-pub write-statements-spec : {M : Type 1} → statement M
-write-statements-spec =
+pub write_statements_spec : {M : Type 1} → statement M
+write_statements_spec =
     tie.close
     (tie.spec invariant-loop decreases-loop (λ c. stating-begins c.before.before.requires) (λ c. search rules) (λ c. search rules) (λ c. search rules)
     (λ c. search rules) write-statement-requires add_at loop-less loop-again (λ c. c.before.loop.invariant.kept)

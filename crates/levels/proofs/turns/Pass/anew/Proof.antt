@@ -4,8 +4,8 @@ use borrow.Author.Rules.{rules}
 use Rattle.levels.proofs.turns.Pass.anew.Statement.{statement}
 use Rattle.levels.proofs.turns.Pass.anew.Tie as tie
 
-pub anew-spec : {M : Type 1} → statement M
-anew-spec =
+pub anew_spec : {M : Type 1} → statement M
+anew_spec =
     tie.close
     (tie.spec (λ c. search rules) (λ c. search rules) (λ c. search rules) (λ c. search rules) (λ c. search rules) (λ c. search rules)
     (λ c. search rules) (λ c. search rules) (λ c. search rules) (λ c. search rules) (λ c. search rules) (λ c. search rules)

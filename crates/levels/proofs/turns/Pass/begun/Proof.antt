@@ -5,8 +5,8 @@ use Rattle.levels.specs.Passes.{begun_of}
 use Rattle.levels.proofs.{States.{begun-same}, turns.Pass.begun.Statement.{statement}}
 use Rattle.levels.proofs.turns.Pass.begun.Tie as tie
 
-pub begun-spec : {M : Type 1} → statement M
-begun-spec =
+pub begun_spec : {M : Type 1} → statement M
+begun_spec =
     tie.close
     (tie.spec (λ c. search rules) (λ c. search rules) (λ c. search rules)
     (λ c. unfold begun_of in ap begun_of (sym c.before.self.given.1))

@@ -20,8 +20,8 @@ returns-3 c = resumed-as c.before.before.before.args.self _ c.before.before.befo
 returns-4 : tie.Need-returns-4
 returns-4 c = unfold resumed_with in resumed-as c.before.before.args.self _ c.before.before.args.held c.enum-told2.given.1
 
-pub resumed-spec : {M : Type 1} → statement M
-resumed-spec =
+pub resumed_spec : {M : Type 1} → statement M
+resumed_spec =
     tie.close
     (tie.spec (λ c κs. search rules) (λ c. search rules) (λ c. search rules) (λ c. search rules) returns returns-2 returns-3 returns-4
     (λ c. resumed-same c.before.args.self c.before.args.held c.match.keys5))

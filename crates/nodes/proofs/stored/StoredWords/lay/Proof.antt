@@ -10,8 +10,8 @@ use Rattle.nodes.proofs.stored.StoredWords.lay.Tie as tie
 returns : tie.Need-returns
 returns c = simp towards_suc (laid-sets (stored_list c.args.self) c.args.words.now c.args.at c.requires)
 
-pub lay-spec : {M : Type 1} → statement M
-lay-spec =
+pub lay_spec : {M : Type 1} → statement M
+lay_spec =
     tie.close
     (tie.spec (λ c. search rules) (λ c. search rules) (λ c. search rules) (λ c. search rules) (λ c. simp length-set (omega arith))
     (λ c. search rules) (λ c. search rules) (λ c. simp length-set (omega arith)) (λ c. search rules) (λ c. search rules)

@@ -1,9 +1,0 @@
--- `words::fields::start_word` meets its contract: by computation. Assumes nothing.
-use mathlib.Core.Path.{refl}
-use borrow.Author.Rules.{rules}
-use Rattle.molang.specs.Words.{word, low_of}
-use Rattle.words.proofs.fields.start_word.Statement.{statement}
-use Rattle.words.proofs.fields.start_word.Tie as tie
-
-pub start-word-spec : {M : Type 1} → statement M
-start-word-spec = tie.close (tie.spec (λ c. search rules) (λ c. search rules) (λ c. unfold word low_of in refl))
