@@ -15,6 +15,45 @@ import sys
 IDENT = r"[A-Za-z_][\w'₀]*(?:-[\w'₀]+)*"
 
 
+PLAIN = re.compile(r"^(?:u8|u16|u32|u64|usize|i8|i16|i32|i64|isize|bool|char)$")
+
+
+def signatures(root):
+    """Of each function of the crates the parameters that are no plain numbers, in order."""
+    found = {}
+    for crate in os.listdir(root):
+        src = os.path.join(root, crate, "src")
+        if not os.path.isdir(src):
+            continue
+        for f in os.listdir(src):
+            if not f.endswith(".rt"):
+                continue
+            text = re.sub(r"//[^\n]*", "", open(os.path.join(src, f), encoding="utf-8").read())
+            module = [] if f in ("lib.rt", "main.rt") else [f[:-3]]
+            owner = None
+            for m in re.finditer(r"(?m)^impl(?:<[^>]*>)?\s+(\w+)[^{]*\{|^\}|\bfn\s+(\w+)(?:<[^>]*>)?\s*\(([^)]*)\)", text):
+                if m.group(1):
+                    owner = m.group(1)
+                elif m.group(2):
+                    names = []
+                    for part in m.group(3).split(","):
+                        part = part.strip()
+                        if not part:
+                            continue
+                        if re.match(r"(?:&\s*(?:mut\s+)?)?(?:mut\s+)?self$", part):
+                            names.append("self")
+                            continue
+                        name, _, kind = part.partition(":")
+                        if not PLAIN.match(kind.strip()):
+                            names.append(re.sub(r"^mut\s+", "", name.strip()))
+                    inside = text[: m.start()].rfind("\n}") < text[: m.start()].rfind("\nimpl") if owner else False
+                    key = "::".join([crate, *module] + ([owner] if inside else []) + [m.group(2)])
+                    found[key] = names
+                else:
+                    owner = None
+    return found
+
+
 def split_terms(text):
     """The terms of an application: identifiers, paths and bracketed terms."""
     out, i, n = [], 0, len(text)
@@ -71,12 +110,17 @@ def unbracket(term):
     return term
 
 
+# Functions whose goals name a place itself, and no view of it.
+FLAT = set(os.environ.get("FLAT", "").split(","))
+
 TRIVIAL = re.compile(r"^(?:search (?:needs|rules)|omega arith|tt)$")
 
 
 class Function:
-    def __init__(self, table):
+    def __init__(self, table, callees=None):
         self.table = table
+        self.callees = callees or {}
+        self.loops = [l[0][1] for l in table["loops"]]
         self.places = table["places"]
         self.new_places = table["places_by_name"]
         self.by_old = {}
@@ -118,6 +162,9 @@ class Function:
                 new = new[:-2] + "." + new[:-2] + "-own" if key.startswith("match") else new
             if key not in table:
                 table[key] = [([x], new + "." + y) for x, y in (p[4] or [])] + [([], new)]
+                if p[3] in self.callees:
+                    names = self.callees[p[3]]
+                    table[key][:0] = [(["new"] + ["1"] * k + ["0"], new + ".new." + n) for k, n in enumerate(names)]
         return table
 
     def jump(self, old, count):
@@ -133,46 +180,74 @@ class Function:
         return n if at == count else None
 
 
-def turn_befores(text, f, var, place):
-    """Steps out that end without a field, from a variable of a known place and from what a let binds to such a path."""
-    known = {var: place}
-    done = []
-    pos = 0
-    pattern = re.compile(r"(?:let (%s) = )?(?<![\w'.-])(%s)((?:\.before)+)(?!\.[a-z0-9])(?: in)?" % (IDENT, IDENT))
-    while True:
-        m = pattern.search(text, pos)
-        if not m:
-            break
-        name, base, befores = m.groups()
-        if base in known and known[base]:
-            k = befores.count(".before")
-            chain = [p[0] for p, _ in f.chain(known[base])]
-            n = f.jump(known[base], k)
-            if name and m.group(0).endswith(" in") and k < len(chain):
-                known[name] = chain[k]
-            if n is not None:
-                new = m.group(0).replace(base + befores, base + ".before" * n)
-                text = text[: m.start()] + new + text[m.end() :]
-                pos = m.start() + len(new)
-                continue
+def between(f, place, target, view):
+    """How many steps out lead from a variable at a place to the place that a helper wants."""
+    chain = [p[0] for p, _ in f.chain(place)]
+    wanted = f.place(target)
+    if not wanted or wanted[0][0] not in chain:
+        return None
+    n = f.jump(place, chain.index(wanted[0][0]))
+    return None if n is None else n + (1 if view else 0)
+
+
+def turn_befores(text, f, var, place, helpers, view):
+    """Names that a let binds to steps out are written as the variable, and what is handed to a helper has the steps that its type wants."""
+    aliases = {var}
+    changed = True
+    while changed:
+        changed = False
+        for m in re.finditer(r"let (%s) =\s+(%s)((?:\.before)*)\s+in\s*" % (IDENT, IDENT), text):
+            name, base, befores = m.groups()
+            if base in aliases and befores and name not in aliases:
+                text = text[: m.start()] + text[m.end() :]
+                text = re.sub(r"(?<![\w'.-])%s(?![\w'-])(?!\s*=\s)" % re.escape(name), base + befores, text)
+                changed = True
+                break
+    done, pos = [], 0
+    view = view and place is not None
+    for m in re.finditer(r"(?<![\w'.-])%s((?:\.before)*)(?![\w'-])(?!\.[a-zA-Z0-9])" % re.escape(var), text):
+        # The application that it is an argument of.
+        k, depth = m.start() - 1, 0
+        while k >= 0:
+            ch = text[k]
+            if ch in ")]}":
+                depth += 1
+            elif ch in "([{":
+                if depth == 0:
+                    break
+                depth -= 1
+            elif depth == 0 and (ch in ",=∙" or text[max(0, k - 3) : k + 1] in (" in ", "\nin ")):
+                break
+            k -= 1
+        before = text[k + 1 : m.start()]
+        heads = [h for h in re.findall(IDENT, before) if h in helpers]
+        done.append(text[pos : m.start()])
+        n = between(f, place, helpers[heads[-1]], view) if heads else None
+        done.append(m.group(0) if n is None else var + ".before" * n)
         pos = m.end()
-    return text
+    return "".join(done) + text[pos:]
 
 
 def turn_paths(text, fields, settled):
     """Step names after a dot."""
 
     def one(m):
-        name, rest = m.group(1), m.group(2) or ""
-        key = name.replace("-", "_")
-        if key in fields:
-            for path, new in fields[key]:
-                want = "".join("." + x for x in path)
-                if rest == want or rest.startswith(want + ".") or not path:
-                    return "." + new + rest[len(want) :]
+        parts = m.group(0).split(".")[1:]
+        for i, name in enumerate(parts):
+            key = name.replace("-", "_")
+            key = key if key in fields else key[0].lower() + key[1:]
+            if i and parts[i - 1] in ("args", "self", "result", "new", "loop", "requires", "initial"):
+                continue
+            if key in fields:
+                rest = "".join("." + x for x in parts[i + 1 :])
+                head = "".join("." + x for x in parts[:i])
+                for path, new in fields[key]:
+                    want = "".join("." + x for x in path)
+                    if rest == want or rest.startswith(want + ".") or not path:
+                        return head + "." + new + rest[len(want) :]
         return m.group(0)
 
-    text = re.sub(r"(?:\.before)+(?=\.(?!before(?![\w-]))[a-z])", "", text)
+    text = re.sub(r"(?:\.before)+(?=\.(?!before(?![\w-]))[A-Za-z])", "", text)
     return re.sub(r"(?<!args)\.(%s)((?:\.(?:%s|[0-9]+))*)(?![\w'-])" % (IDENT, IDENT), one, text)
 
 
@@ -215,9 +290,9 @@ def drop_use(uses, path, module):
     return seen
 
 
-def turn(path, crate, module, table):
+def turn(path, crate, module, table, callees):
     text = open(path, encoding="utf-8").read()
-    f = Function(table)
+    f = Function(table, callees)
     head, uses, blocks = blocks_of(text)
     last = blocks[-1]
     m = re.match(r"pub ([\w'+-]+_spec) :[^\n]*(?:\n +[^\n]*)*?\n\1 =\s*", last)
@@ -269,11 +344,22 @@ def turn(path, crate, module, table):
             answers.append((new, at[0], f"pub {new} : goal.{new}\n{new} c =\n    {t if re.fullmatch(IDENT, t) else '(' + t + ')'} c"))
     all_fields = f.fields([(p, n) for p, n in zip(f.places, f.new_places)])
     used_places = set()
+    whole = []
+    helpers = {}
+    for b in blocks[:-1]:
+        name = next((n for n, bb in named.items() if bb is b), None)
+        p = re.search(r"\(%s : tie\.((?:After|Start|In|Else|At|Then)[\w'-]*)" % IDENT, b) or re.search(r": tie\.((?:After|Start|In|Else|At|Then)[\w'-]*)(?: %s)* →" % IDENT, b)
+        if name and p and name not in rename:
+            helpers[name] = p.group(1)
 
     def place_type(m):
         it = f.place(m.group(1))
         if not it:
             return m.group(0)
+        if f.loops:
+            whole.append(1)
+            rest = " ".join(f"goal.the-invariant-{x} goal.the-decreases-{x}" for x in f.loops)
+            return f"(lts.{it[0][0]} tie.the-claims reads.Pre reads.Post {rest})"
         used_places.add(it[1])
         return it[1]
 
@@ -306,17 +392,18 @@ def turn(path, crate, module, table):
             fields.update(f.fields(f.chain(at)))
         var = re.search(r"(?m)^%s\s+(%s)" % (re.escape(name or "?"), IDENT), b) if name in rename else re.search(r"\((%s) : tie\." % IDENT, b)
         if at and var:
-            b = turn_befores(b, f, var.group(1), at)
+            b = turn_befores(b, f, var.group(1), at, helpers, bool(f.loops) and name in rename and module not in FLAT)
         b = turn_paths(types(b), fields, None)
         if name in rename:
             b = re.sub(r"(?m)^(?:pub )?%s(?= :)" % re.escape(name), "pub " + rename[name], b, count=1)
+            b = re.sub(r"(?m)^(%s \S+) κs(?= )" % re.escape(name), r"\1", b)
         out_blocks.append(b)
     for new, at, b in answers:
         fields = dict(all_fields)
         if f.place(at):
             fields.update(f.fields(f.chain(at)))
         head_, _, inner = b.partition(" =\n")
-        inner = turn_befores(inner, f, head_.split("\n")[-1].split()[1], at)
+        inner = turn_befores(inner, f, head_.split("\n")[-1].split()[1], at, helpers, bool(f.loops) and module not in FLAT)
         out_blocks.append(head_ + " =\n" + turn_paths(types(inner), fields, None))
     text_out = "\n\n".join(out_blocks)
     for old, new in rename.items():
@@ -324,6 +411,7 @@ def turn(path, crate, module, table):
             text_out = re.sub(r"(?<![\w'.-])%s(?![\w'-])(?!\s*:\s*goal)" % re.escape(old), lambda m: "\0" + new + "\0", text_out)
     text_out = text_out.replace("\0", "")
     text_out = text_out.replace("search needs", "search rules")
+    text_out, opens = re.subn(r"(?<![\w'.-])([a-z]\w*(?:\.[\w-]+)*\.in_default[\w-]*-own\.keys\d+)", r"(opened \1)", text_out)
     uses = drop_use(uses, path, module)
     folder = os.path.dirname(path)
     prefix = f"use Rattle.{crate}.proofs.{module}"
@@ -334,6 +422,10 @@ def turn(path, crate, module, table):
     if text_out.strip():
         lines = list(uses)
         lines.append(f"{prefix}.Goals as goal")
+        if whole:
+            lines += [f"{prefix}.Lts as lts", f"{prefix}.Tie as tie", f"{prefix}.Reads as reads"]
+        if opens:
+            lines.append("use borrow.Enum.Refused.{opened}")
         if used_places:
             lines.append(f"{prefix}.Goals.{{{', '.join(sorted(used_places))}}}")
         with open(os.path.join(folder, "Answers.antt"), "w", encoding="utf-8") as g:
@@ -371,6 +463,7 @@ def main(argv):
     names, crate_folder, only = argv[0], argv[1].rstrip("/"), argv[2:]
     crate = os.path.basename(os.path.abspath(crate_folder))
     tables = json.load(open(names))
+    callees = signatures(os.path.dirname(os.path.abspath(crate_folder)))
     done = 0
     for key, table in tables.items():
         m = re.match(r"Rattle-%s-proofs\.(.*)\.Lts$" % re.escape(crate), key)
@@ -383,7 +476,7 @@ def main(argv):
         if not os.path.isfile(path):
             continue
         try:
-            said = turn(path, crate, module, table)
+            said = turn(path, crate, module, table, callees)
         except Exception as e:
             said = f"{type(e).__name__}: {e}"
         if said:

@@ -15,7 +15,8 @@ use Rattle.levels.specs.Sides.{GatherSide, LevelSide, StatementSide, ArraySide, 
 use Rattle.levels.specs.{Turns.{CanFinish, FinishTo, gives, Ends}, declared.turns.Pass.{Pass}}
 use Rattle.levels.specs.declared.turns.Pass.TheVariants.{Calls, MathCalls, Unsplit, Split, Arrays, Unary, Binary, Conditional, Returns}
 use Rattle.levels.specs.{declared.turns.Finished.{Finished}, declared.turns.Finished.TheVariants.{At}}
-use Rattle.levels.proofs.{Reading.{same-within}, turns.Pass.{the_type}}
+use Rattle.levels.proofs.{Reading.{same-within}}
+use Rattle.levels.specs.contracts.turns.Pass.{the_type}
 use Rattle.grouping.proofs.StackLaws.{holds-within}
 
 -- The passes that give the done trees from the left as they are.

@@ -26,7 +26,8 @@ use Rattle.levels.proofs.Reading.{when_true, when_false}
 use Rattle.order.{specs.Ranks.{used_by}, proofs.Folding.{failed as failing, next, run-first, skip_first}}
 use Rattle.sections.specs.Flat.{FlatTells, failed, mismatched, unclosed, Answers, CanJoin, Joined, CanSection}
 use Rattle.sections.specs.{declared.Flat.{Flat as Left}, declared.Flat.TheVariants.{Done, Fail, Mismatched, Unclosed as Unclosing}}
-use Rattle.sections.proofs.{Flat.{the_type}, SectionCases.{found}}
+use Rattle.sections.proofs.{SectionCases.{found}}
+use Rattle.sections.specs.contracts.Flat.{the_type}
 use Rattle.sections.specs.Flat as pass
 
 -- ---- one pass of the reading

@@ -21,7 +21,8 @@ use Rattle.levels.specs.{Sides.{Agrees, AtTurn, InFrame, Holds}, Turns.{CanResum
 use Rattle.levels.specs.declared.turns.Pass.TheVariants.{Calls, MathCalls, Unsplit, Split as SplitAt, Arrays, Unary, Binary, Conditional}
 use Rattle.levels.specs.{declared.turns.Pass.TheVariants.{Returns}, declared.turns.Walk.{Walk}}
 use Rattle.levels.proofs.{Reading.{SameSlots, back-array-keep, array-keep, ahead-keep, array-put}, Ended.{ended-le, ended-at-keep}}
-use Rattle.levels.proofs.{turns.Pass.{the_type}, States.{sides-of, holds_of}}
+use Rattle.levels.proofs.{States.{sides-of, holds_of}}
+use Rattle.levels.specs.contracts.turns.Pass.{the_type}
 use Rattle.grouping.specs.Driver.{Keeping}
 use Rattle.grouping.proofs.StackLaws.{waits-within}
 

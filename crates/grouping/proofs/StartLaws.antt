@@ -20,7 +20,8 @@ use Rattle.levels.specs.Sides.{GatherSide, LevelSide, ConditionalSide, tokens_in
 use Rattle.levels.specs.{Sides.{Agrees, AtTurn, Holds}, Turns.{Begins, afresh, lent, CanStart, Started}, declared.turns.Pass.{Pass}}
 use Rattle.levels.specs.declared.turns.Pass.TheVariants.{Calls, MathCalls, Unsplit, Split, Arrays, Unary, Binary, Conditional, Returns}
 use Rattle.levels.specs.declared.turns.Walk.{Walk}
-use Rattle.levels.proofs.{turns.Pass.{the_type}, States.{sides-of, holds_of}}
+use Rattle.levels.proofs.{States.{sides-of, holds_of}}
+use Rattle.levels.specs.contracts.turns.Pass.{the_type}
 use Rattle.grouping.specs.Driver.{CanOpen, Opened, CanBegin, Begun}
 use Rattle.grouping.proofs.SideLaws.{open-array-keep}
 

@@ -1,0 +1,7 @@
+-- `nodes::slots::set_close` meets its contract.
+use borrow.Author.Rules.{rules}
+use Rattle.nodes.proofs.slots.set_close.Goals as goal
+
+pub returns : goal.returns
+returns c =
+    rw c.close_word.ensures

@@ -1,0 +1,19 @@
+-- `shape::variant_after` meets its contract: an operator word has the variant, the others keep it. Assumes nothing.
+use mathlib.Core.Path.{◌≡◌, refl}
+use Rattle.molang.specs.Words.{variant_after}
+use Rattle.words.specs.Fields.{variant_of}
+use Rattle.shape.specs.Answers.{field_of}
+use Rattle.shape.proofs.{CaseLaws.{not-operator}}
+use borrow.Author.Rules.{rules}
+use Rattle.shape.proofs.variant_after.Goals as goal
+use borrow.Enum.Refused.{opened}
+
+pub returns-in_default : goal.returns-in_default
+unfolding variant_after
+returns-in_default c =
+    let a = c.args in
+    not-operator (λ f. a.variant ≡ variant_after (field_of f) a.variant a.w) refl refl refl refl refl refl a.field (opened c.in_default.in_default-own.keys2)
+
+pub returns-in-Operator : goal.returns-in-Operator
+returns-in-Operator c =
+    unfold variant_after variant_of in rw c.in-Operator.is c.variant.ensures
