@@ -50,8 +50,8 @@ returns-then-closer_of-operator_of c =
       section_closed = record {
         answer = λ g.
             close-differs g.standing c.requires.1 g.tree c.opener_at-innermost.result _ _ c.args.at.index
-            c.still_Open.result c.opener_at-innermost.ensures (looked-for c.before.before.before.before) c.operator_of-2.ensures
-            c.if-closer_of-operator_of.true c.still_Open.ensures;
+            c.still_open-named.result c.opener_at-innermost.ensures (looked-for c.before.before.before.before) c.operator_of-2.ensures
+            c.if-closer_of-operator_of.true c.still_open-named.ensures;
         same = λ g j f. refl;
         long = refl;
       };
@@ -78,7 +78,7 @@ returns c =
     let o = found c.before.before.before.before.before.before.before.before.before in
     let s = o.before.before.before.before in
     record {
-      section_closed = close-closed s.pre.1 o.opener_at-innermost.result _ _ s.args.at.index c.give_children.new.work set.new.0
+      section_closed = close-closed s.pre.1 o.opener_at-innermost.result _ _ s.args.at.index c.give_children.new.work set.new.work
           o.opener_at-innermost.ensures (looked-for c.before.before.before.before.before.before.before.before.before.before.before) c.operator_of-2.ensures c.if-closer_of-operator_of.false
           c.give_children.ensures set.ensures (opener-in c.before.before.before.before.before.before);
       result_value = refl;

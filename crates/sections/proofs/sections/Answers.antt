@@ -43,7 +43,7 @@ walked : {W₀ : List ℕ} (c : (lts.After-struct_known tie.the-claims reads.Pre
 walked c g v =
     let r = c.look-looked in
     let given = c.looked.given in
-    walk-on (turn c.before.before.before.before.before.before.before g v) r.result given.0.0 r.new.0 r.ensures.0 given.1
+    walk-on (turn c.before.before.before.before.before.before.before g v) r.result given.0.0 r.new.work r.ensures.looked given.1
 
 pub look-looked-requires : goal.look-looked-requires
 look-looked-requires c =
@@ -99,7 +99,7 @@ returns-then-n-read-2 c =
     (record {
       answer = λ g.
           let w = walked c.before.before.before g (now-at c.before.before.before.before.before.before.before.before.before.before g) in
-          walk-unclosed w.0 w.1 w.2 c.if-n-read-2.true c.if-at-eq0.false c.still_Open.result c.still_Open.ensures;
+          walk-unclosed w.0 w.1 w.2 c.if-n-read-2.true c.if-at-eq0.false c.still_open.result c.still_open.ensures;
       kept = λ g. (walked c.before.before.before g (now-at c.before.before.before.before.before.before.before.before.before.before g)).2.kept;
       long = (walked c.before.before.before pre (now-at c.before.before.before.before.before.before.before.before.before.before pre)).2.long;
     }) in
@@ -118,10 +118,10 @@ returns-in-Differs c =
     let parts = loses-nothing
     (record {
       answer = λ g.
-          (walk-differs (turn c.before.before.before.before.before.before g (now-at c.before.before.before.before.before.before g)) r.result given.0.0 given.0.1.0 r.new.0 r.ensures.0 given.1).0;
+          (walk-differs (turn c.before.before.before.before.before.before g (now-at c.before.before.before.before.before.before g)) r.result given.0.0 given.0.1.0 r.new.work r.ensures.looked given.1).0;
       kept = λ g.
-          (walk-differs (turn c.before.before.before.before.before.before g (now-at c.before.before.before.before.before.before g)) r.result given.0.0 given.0.1.0 r.new.0 r.ensures.0 given.1).1;
-      long = r.ensures.0.long ∙ (now-at c.before.before.before.before.before.before pre).2.long;
+          (walk-differs (turn c.before.before.before.before.before.before g (now-at c.before.before.before.before.before.before g)) r.result given.0.0 given.0.1.0 r.new.work r.ensures.looked given.1).1;
+      long = r.ensures.looked.long ∙ (now-at c.before.before.before.before.before.before pre).2.long;
     }) in
     record { sectioned = parts.0; loses_nothing = parts.1 }
 
