@@ -164,7 +164,7 @@ class Function:
                 table[key] = [([x], new + "." + y) for x, y in (p[4] or [])] + [([], new)]
                 if p[3] in self.callees:
                     names = self.callees[p[3]]
-                    table[key][:0] = [(["new"] + ["1"] * k + ["0"], new + ".new." + n) for k, n in enumerate(names)]
+                    table[key][:0] = [([part] + ["1"] * k + ["0"], f"{new}.{part}.{n}") for part in ("new", "auto") for k, n in enumerate(names)]
         return table
 
     def jump(self, old, count):
@@ -200,11 +200,11 @@ def turn_befores(text, f, var, place, helpers, view):
             name, base, befores = m.groups()
             if base in aliases and befores and name not in aliases:
                 text = text[: m.start()] + text[m.end() :]
-                text = re.sub(r"(?<![\w'.-])%s(?![\w'-])(?!\s*=\s)" % re.escape(name), base + befores, text)
+                text = re.sub(r"(?<![\w'.-])%s(?![\w'-])(?!\s*=\s)%s" % (re.escape(name), r"(?=\.)" if name == "at" else ""), base + befores, text)
                 changed = True
                 break
     done, pos = [], 0
-    view = view and place is not None
+    view = view or place.endswith("-unread")
     for m in re.finditer(r"(?<![\w'.-])%s((?:\.before)*)(?![\w'-])(?!\.[a-zA-Z0-9])" % re.escape(var), text):
         # The application that it is an argument of.
         k, depth = m.start() - 1, 0
@@ -408,7 +408,7 @@ def turn(path, crate, module, table, callees):
     text_out = "\n\n".join(out_blocks)
     for old, new in rename.items():
         if old != new:
-            text_out = re.sub(r"(?<![\w'.-])%s(?![\w'-])(?!\s*:\s*goal)" % re.escape(old), lambda m: "\0" + new + "\0", text_out)
+            text_out = re.sub(r"(?<![\w'.\0-])%s(?![\w'\0-])(?!\s*:\s*goal)" % re.escape(old), lambda m: "\0" + new + "\0", text_out)
     text_out = text_out.replace("\0", "")
     text_out = text_out.replace("search needs", "search rules")
     text_out, opens = re.subn(r"(?<![\w'.-])([a-z]\w*(?:\.[\w-]+)*\.in_default[\w-]*-own\.keys\d+)", r"(opened \1)", text_out)
