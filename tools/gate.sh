@@ -92,8 +92,9 @@ if command -v python3 >/dev/null; then
     step "the page of what must be believed is as it would be written" tools/believed.py --check
     step "no public name is declared twice but those that are known" tools/homonyms.py
     step "every name in the documents is one" tools/doc_names.py
+    step "no answer stands in a proof that the check finds" tools/shrink.py --check
 else
-    echo "gate: there is no python3: wrong programs, what must be believed, homonyms and the documents' names were not looked at"
+    echo "gate: there is no python3: wrong programs, what must be believed, homonyms, the documents' names and answers were not looked at"
 fi
 
 # What earlier runs left in out/, `rt ci` puts back, so that the libraries there need not be those that it proves.
