@@ -1,11 +1,9 @@
 -- `write::write` meets its contract: answer 12, answer 13, or what filling the list answers; each is the first that holds in the
 -- table's order. Assumes nothing.
-use mathlib.Core.{Path.{◌≡◌, sym, ap, ◌∙◌}, Option.{none}}
-use Rattle.molang.specs.{Words.{operator_field}, WriteEntry.{tree_fault}}
+use mathlib.Core.{Path.{sym, ap, ◌∙◌}}
 use Rattle.write.specs.Answers.{verdict_of}
-use Rattle.shape.{specs.Answers.{refusal_of, shape}, specs.Shaped.{OneTree}, proofs.ShapeLaws.{one-tree}}
+use Rattle.shape.{specs.Answers.{refusal_of}, proofs.ShapeLaws.{one-tree}}
 use Rattle.write.proofs.EntryLaws.{fault-answer, no-fault, tree-answer, unplain-answer, plain-writable}
-use borrow.Author.Rules.{rules}
 use Rattle.write.proofs.write.Goals as goal
 
 pub returns-in-At : goal.returns-in-At

@@ -1,6 +1,5 @@
 -- `write::statements::write_statement` meets its contract: what the statement holds, then its semicolon. Assumes nothing.
 use native.Mathlib.Omega.{arith}
-use borrow.Author.Rules.{rules}
 use Rattle.write.proofs.StatementLaws.{statement-long, held-room, semicolon-long, semicolon-room, statement-within, statement-list}
 use Rattle.write.proofs.{StatementLaws.{statement-writes}}
 use Rattle.write.proofs.statements.write_statement.Goals as goal

@@ -1,10 +1,7 @@
 -- `write::statements::write_statements` meets its contract. The loop's invariant is `Stating`; the measure is the words that are left.
 -- Assumes nothing.
-use Prim.Native.Nat.{◌-◌}
 use native.Mathlib.Omega.{arith}
-use borrow.Author.Rules.{rules}
-use lib.ListN.{length}
-use Rattle.write.proofs.StatementLaws.{Stating, stating-begins, stating-ends, stating-room, stating-within, stating-falls}
+use Rattle.write.proofs.StatementLaws.{stating-begins, stating-ends, stating-room, stating-within, stating-falls}
 use Rattle.write.proofs.{StatementLaws.{stating-on}}
 use Rattle.write.proofs.statements.write_statements.Goals as goal
 
