@@ -1,4 +1,5 @@
 -- `write::plain::holds_statements` meets its contract. The loop's invariant is `Holding`; the measure is the words that are left. Assumes
+-- nothing.
 use Prim.Native.Nat.{◌-◌}
 use lib.ListN.{length}
 use Rattle.write.proofs.RootLaws.{Holding}

@@ -1,4 +1,5 @@
 -- `write::plain::judge_from` meets its contract. The loop's invariant is `Judging`; the measure is the words that are left. Assumes
+-- nothing.
 use Prim.Native.Nat.{◌-◌}
 use mathlib.Core.{Path.{◌≡◌}}
 use lib.ListN.{length}

@@ -1,4 +1,5 @@
 -- `write::spell::descend` meets its contract. The loop's invariant is that it stands at one of the first children; the measure is the words
+-- that are left.
 use Prim.Native.Nat.{◌-◌}
 use mathlib.Core.Path.{◌≡◌}
 use lib.ListN.{length}
