@@ -10,23 +10,12 @@ use Rattle.parse.specs.declared.Answer.TheVariants.{Tree}
 use Rattle.rules.specs.Numbering.{CanNumber}
 use Rattle.rules.proofs.{EntryLaws.{tree-numbers, tree-numbered, unnumbered}}
 use Rattle.rules.proofs.number.Goals as goal
-use Rattle.rules.proofs.number.Lts as lts
-use Rattle.rules.proofs.number.Tie as tie
-use Rattle.rules.proofs.number.Reads as reads
 use borrow.Enum.Refused.{opened}
-
--- There is room for the tree's words and its nodes' bytes.
-room : (c : (lts.After-known_told tie.the-claims reads.Pre reads.Post))
-    → let a = c.args in
-    CanNumber (Tree c.in-Tree.nodes) a.tree.now a.rules.now
-room c =
-    let a = c.args in
-    tree-numbers a.answer _ a.tree.now a.rules.now c.in-Tree.is c.requires
 
 pub fill-requires : goal.fill-requires
 fill-requires c =
     let a = c.args in
-    let h = room c.before.before.before in
+    let h = tree-numbers c.args.answer _ c.args.tree.now c.args.rules.now c.in-Tree.is c.requires in
     let long = length-take-le (7 * c.in-Tree.nodes) a.tree.now h.0 in
     omega (arith, h.1)
 
@@ -34,7 +23,7 @@ pub returns-in-Tree : goal.returns-in-Tree
 returns-in-Tree c =
     let a = c.args in
     let version = c.effective in
-    let effective-version = to_z-of_z (record { sfits = version.type_inv }) ∙ (version.ensures ∙ ap effective (to_z-of_z c.ranges.version)) in
+    let effective-version = to_z-of_z {w = w16} (record { sfits = version.type_inv }) ∙ (version.ensures ∙ ap effective (to_z-of_z {w = w16} c.ranges.version)) in
     let first = c.is_from_6 in
     tree-numbered a.answer _ a.version (to_z w16 (of_z w16 version.result)) first.result a.tree.now a.rules.now _
     c.in-Tree.is effective-version first.ensures c.fill.ensures
@@ -46,8 +35,8 @@ returns-in_default c =
 
 pub overflow_mul-end : goal.overflow_mul-end
 overflow_mul-end c =
-    omega (arith, (room c).0)
+    omega (arith, (tree-numbers c.args.answer _ c.args.tree.now c.args.rules.now c.in-Tree.is c.requires).0)
 
 pub slice_bounds-fill-end : goal.slice_bounds-fill-end
 slice_bounds-fill-end c =
-    sym (length-take-le _ _ (room c).0)
+    sym (length-take-le _ _ (tree-numbers c.args.answer _ c.args.tree.now c.args.rules.now c.in-Tree.is c.requires).0)

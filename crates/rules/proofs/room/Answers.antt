@@ -8,35 +8,25 @@ use Rattle.accept.{specs.Accepting.{is_read, verdict_of, verdict, length_refusal
 use Rattle.rules.specs.Numbering.{room_refusal}
 use Rattle.rules.proofs.{EntryLaws.{room-short, room_fits}}
 use Rattle.rules.proofs.room.Goals as goal
-use Rattle.rules.proofs.room.Lts as lts
-use Rattle.rules.proofs.room.Tie as tie
-use Rattle.rules.proofs.room.Reads as reads
-use borrow.Enum.Refused.{opened}
 
 pub returns-in_default : goal.returns-in_default
 unfolding room_refusal
 returns-in_default c =
     let a = c.args in
     refused-first c.lengths-length.result (length a.list.now / 5) (length_refusal a.list.now a.sizes) _
-    (opened c.in_default.in_default-own.keys2) c.lengths-length.ensures
-
--- The lengths refuse nothing.
-whole : (c : (lts.After-known_told tie.the-claims reads.Pre reads.Post))
-    → let a = c.args in
-    is_read c.in-Tokens.n ≡ verdict (length a.list.now / 5) (length_refusal a.list.now a.sizes)
-whole c = sym (ap verdict_of c.in-Tokens.is) ∙ c.lengths-length.ensures
+    c.in_default.in_default-own.keys2 c.lengths-length.ensures
 
 pub overflow_mul-n : goal.overflow_mul-n
 overflow_mul-n c =
     let a = c.args in
-    omega (arith, (whole-tokens a.list.now a.sizes (record { low = 0; high = 0 }) 0 _ (whole c)).1)
+    omega (arith, (whole-tokens a.list.now a.sizes (record { low = 0; high = 0 }) 0 _ (sym (ap verdict_of c.in-Tokens.is) ∙ c.lengths-length.ensures)).1)
 
 pub returns-then-bytes-n : goal.returns-then-bytes-n
 returns-then-bytes-n c =
     let a = c.args in
-    room-short a.list.now a.sizes a.bytes _ (whole c.before) (omega arith)
+    room-short a.list.now a.sizes a.bytes _ (sym (ap verdict_of c.in-Tokens.is) ∙ c.lengths-length.ensures) (omega arith)
 
 pub returns : goal.returns
 returns c =
     let a = c.args in
-    room_fits a.list.now a.sizes a.bytes _ (whole c.before) (omega arith)
+    room_fits a.list.now a.sizes a.bytes _ (sym (ap verdict_of c.in-Tokens.is) ∙ c.lengths-length.ensures) (omega arith)
