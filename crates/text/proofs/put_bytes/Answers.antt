@@ -1,5 +1,5 @@
 -- `text::put_bytes` meets its contract.
-use Rattle.std.proofs.Common.{arith, ◌≡◌}
+use Rattle.std.proofs.Common.{arith}
 use Rattle.words.proofs.{RecordLaws.{none-laid}, LaidLaws.{laid_next}}
 use Rattle.text.proofs.TextLaws.{wrote-all}
 use Rattle.text.proofs.put_bytes.Goals as goal

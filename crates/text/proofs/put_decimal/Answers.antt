@@ -1,6 +1,6 @@
 -- `text::put_decimal` meets its contract: the digits that io writes.
-use Rattle.std.proofs.Common.{arith, length-take}
-use Rattle.text.proofs.TextLaws.{few-digits, wrote-decimal}
+use Rattle.std.proofs.Common.{arith}
+use Rattle.text.proofs.TextLaws.{wrote-decimal}
 use Rattle.text.proofs.put_decimal.Goals as goal
 
 pub returns : goal.returns
