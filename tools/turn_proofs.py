@@ -54,6 +54,106 @@ def signatures(root):
     return found
 
 
+def clauses(root):
+    """Of each function the names of its requires and of its ensures."""
+    found = {}
+    for crate in os.listdir(root):
+        src = os.path.join(root, crate, "src")
+        if not os.path.isdir(src):
+            continue
+        for f in os.listdir(src):
+            if not f.endswith(".rt"):
+                continue
+            text = re.sub(r"//[^\n]*", "", open(os.path.join(src, f), encoding="utf-8").read())
+            module = [] if f in ("lib.rt", "main.rt") else [f[:-3]]
+            owner = None
+            for m in re.finditer(r"(?m)^impl(?:<[^>]*>)?\s+(\w+)[^{]*\{|^\}|\bfn\s+(\w+)(?:<[^>]*>)?\s*\(", text):
+                if m.group(1):
+                    owner = m.group(1)
+                elif m.group(2):
+                    rest = text[m.end() :]
+                    stop = re.search(r"(?m)^\s*\{\s*$|^\}", rest)
+                    head = rest[: stop.start()] if stop else rest[:2000]
+                    key = "::".join([crate, *module] + ([owner] if owner else []) + [m.group(2)])
+                    found[key] = (re.findall(r"(?m)^\s*requires\*? (\w+) \{", head), re.findall(r"(?m)^\s*ensures\*? (\w+) \{", head))
+                else:
+                    owner = None
+    return found
+
+
+def part_names(names):
+    """Of clauses that were one nested pair the path of each."""
+    return [(["1"] * k + (["0"] if k < len(names) - 1 else []), n) for k, n in enumerate(names)]
+
+
+def split_tuple(term, count):
+    """The parts of a bracketed tuple, the last one nested, or None."""
+    term = term.strip()
+    if not (term.startswith("(") and term.endswith(")")):
+        return None
+    depth, parts, start = 0, [], 1
+    for k, ch in enumerate(term):
+        depth += ch in "({["
+        depth -= ch in ")}]"
+        if depth == 0 and k < len(term) - 1:
+            return None
+        if ch == "," and depth == 1:
+            parts.append(term[start:k].strip())
+            start = k + 1
+    last = term[start:-1].strip()
+    if last:
+        parts.append(last)
+    if len(parts) < 2:
+        return None
+    if len(parts) < count:
+        more = split_tuple(parts[-1], count - len(parts) + 1)
+        if more is None:
+            return None
+        parts = parts[:-1] + more
+    if len(parts) > count:
+        parts = parts[: count - 1] + ["(" + ", ".join(parts[count - 1 :]) + ")"]
+    return parts
+
+
+def named_parts(block, f, new, own):
+    """What answers several named clauses is a record of them."""
+    names = None
+    if re.match(r"returns(?:-|$)", new):
+        names = own[1]
+    else:
+        m = re.match(r"(.+?)-requires(?:-|$)", new)
+        if m:
+            for p, n in zip(f.places, f.new_places):
+                if p[3] and (p[2][1] == m.group(1) or p[3].split("::")[-1] == re.split(r"-", m.group(1))[0]):
+                    names = f.clauses.get(p[3], ([], []))[0]
+                    break
+    if not names or len(names) < 2:
+        return block
+    # The clauses of the answer: after `=`, and behind the last `in` at no depth.
+    m = re.search(r"(?m)^%s(?: [^\n=]*)? =(?=\s)" % re.escape(new), block)
+    if not m:
+        return block
+    body = block[m.end() :]
+    depth, cut = 0, 0
+    for k in re.finditer(r"[({\[]|[)}\]]|\bin\b(?=\s)", body):
+        if k.group(0) in "({[":
+            depth += 1
+        elif k.group(0) in ")}]":
+            depth -= 1
+        elif depth == 0:
+            cut = k.end()
+    tail = body[cut:].strip()
+    parts = split_tuple(tail, len(names))
+    if parts:
+        put = "record { " + "; ".join(f"{n} = {x}" for n, x in zip(names, parts)) + " }"
+    elif tail.startswith("record"):
+        return block
+    else:
+        paths = part_names(names)
+        put = "let parts = " + tail + " in\n    record { " + "; ".join(f"{n} = parts{''.join('.' + x for x in path)}" for path, n in paths) + " }"
+    return block[: m.end()] + body[:cut] + "\n    " + put
+
+
 def split_terms(text):
     """The terms of an application: identifiers, paths and bracketed terms."""
     out, i, n = [], 0, len(text)
@@ -117,8 +217,9 @@ TRIVIAL = re.compile(r"^(?:search (?:needs|rules)|omega arith|tt)$")
 
 
 class Function:
-    def __init__(self, table, callees=None):
+    def __init__(self, table, callees=None, contracts=None):
         self.table = table
+        self.clauses = contracts or {}
         self.callees = callees or {}
         self.loops = [l[0][1] for l in table["loops"]]
         self.places = table["places"]
@@ -164,7 +265,10 @@ class Function:
                 table[key] = [([x], new + "." + y) for x, y in (p[4] or [])] + [([], new)]
                 if p[3] in self.callees:
                     names = self.callees[p[3]]
-                    table[key][:0] = [(["new"] + ["1"] * k + ["0"], new + ".new." + n) for k, n in enumerate(names)]
+                    table[key][:0] = [([part] + ["1"] * k + ["0"], f"{new}.{part}.{n}") for part in ("new", "auto") for k, n in enumerate(names)]
+                said = self.clauses.get(p[3], ([], []))[1]
+                if len(said) > 1:
+                    table[key][:0] = [(["ensures", *path], f"{new}.ensures.{n}") for path, n in part_names(said)]
         return table
 
     def jump(self, old, count):
@@ -200,11 +304,11 @@ def turn_befores(text, f, var, place, helpers, view):
             name, base, befores = m.groups()
             if base in aliases and befores and name not in aliases:
                 text = text[: m.start()] + text[m.end() :]
-                text = re.sub(r"(?<![\w'.-])%s(?![\w'-])(?!\s*=\s)" % re.escape(name), base + befores, text)
+                text = re.sub(r"(?<![\w'.-])%s(?![\w'-])(?!\s*=\s)%s" % (re.escape(name), r"(?=\.)" if name == "at" else ""), base + befores, text)
                 changed = True
                 break
     done, pos = [], 0
-    view = view and place is not None
+    view = view or place.endswith("-unread")
     for m in re.finditer(r"(?<![\w'.-])%s((?:\.before)*)(?![\w'-])(?!\.[a-zA-Z0-9])" % re.escape(var), text):
         # The application that it is an argument of.
         k, depth = m.start() - 1, 0
@@ -290,9 +394,10 @@ def drop_use(uses, path, module):
     return seen
 
 
-def turn(path, crate, module, table, callees):
+def turn(path, crate, module, table, callees, contracts):
     text = open(path, encoding="utf-8").read()
-    f = Function(table, callees)
+    f = Function(table, callees, contracts)
+    own = contracts.get("::".join([crate, *module.split(".")]), ([], []))
     head, uses, blocks = blocks_of(text)
     last = blocks[-1]
     m = re.match(r"pub ([\w'+-]+_spec) :[^\n]*(?:\n +[^\n]*)*?\n\1 =\s*", last)
@@ -367,6 +472,15 @@ def turn(path, crate, module, table, callees):
     inv_names = "|".join(re.escape(x) for x in invs)
     need_names = {old: new for old, new in needs}
 
+    def renamed(b):
+        if len(own[0]) > 1:
+            for path, n in part_names(own[0]):
+                b = re.sub(r"\.requires%s(?![\w-])" % "".join(r"\." + x for x in path), ".requires." + n, b)
+        for old, new in rename.items():
+            if old != new:
+                b = re.sub(r"(?<![\w'.\0-])%s(?![\w'\0-])(?!\s*:\s*goal)" % re.escape(old), lambda m: "\0" + new + "\0", b)
+        return b.replace("\0", "")
+
     def types(b):
         if inv_names:
             b = re.sub(r"(tie\.[\w'-]+)((?:\s+(?:%s)(?![\w'-]))+)" % inv_names, r"\1", b)
@@ -397,19 +511,16 @@ def turn(path, crate, module, table, callees):
         if name in rename:
             b = re.sub(r"(?m)^(?:pub )?%s(?= :)" % re.escape(name), "pub " + rename[name], b, count=1)
             b = re.sub(r"(?m)^(%s \S+) κs(?= )" % re.escape(name), r"\1", b)
-        out_blocks.append(b)
+            b = named_parts(b, f, rename[name], own)
+        out_blocks.append(renamed(b))
     for new, at, b in answers:
         fields = dict(all_fields)
         if f.place(at):
             fields.update(f.fields(f.chain(at)))
         head_, _, inner = b.partition(" =\n")
         inner = turn_befores(inner, f, head_.split("\n")[-1].split()[1], at, helpers, bool(f.loops) and module not in FLAT)
-        out_blocks.append(head_ + " =\n" + turn_paths(types(inner), fields, None))
+        out_blocks.append(named_parts(head_ + " =\n" + renamed(turn_paths(types(inner), fields, None)), f, new, own))
     text_out = "\n\n".join(out_blocks)
-    for old, new in rename.items():
-        if old != new:
-            text_out = re.sub(r"(?<![\w'.-])%s(?![\w'-])(?!\s*:\s*goal)" % re.escape(old), lambda m: "\0" + new + "\0", text_out)
-    text_out = text_out.replace("\0", "")
     text_out = text_out.replace("search needs", "search rules")
     text_out, opens = re.subn(r"(?<![\w'.-])([a-z]\w*(?:\.[\w-]+)*\.in_default[\w-]*-own\.keys\d+)", r"(opened \1)", text_out)
     uses = drop_use(uses, path, module)
@@ -464,6 +575,7 @@ def main(argv):
     crate = os.path.basename(os.path.abspath(crate_folder))
     tables = json.load(open(names))
     callees = signatures(os.path.dirname(os.path.abspath(crate_folder)))
+    contracts = clauses(os.path.dirname(os.path.abspath(crate_folder)))
     done = 0
     for key, table in tables.items():
         m = re.match(r"Rattle-%s-proofs\.(.*)\.Lts$" % re.escape(crate), key)
@@ -476,7 +588,7 @@ def main(argv):
         if not os.path.isfile(path):
             continue
         try:
-            said = turn(path, crate, module, table, callees)
+            said = turn(path, crate, module, table, callees, contracts)
         except Exception as e:
             said = f"{type(e).__name__}: {e}"
         if said:

@@ -13,7 +13,8 @@ use Rattle.molang.specs.Words.{low_fault, word_fault, variant_after, next_in_tok
 use Rattle.molang.proofs.{Booleans.{either}, Words.{next_word}, UsedSet.{used-few}}
 use Rattle.words.specs.{Checks.{number_of}, declared.checks.Word.{Word}}
 use Rattle.words.specs.declared.checks.Word.TheVariants.{Good, WrongKind, HighOperator, HighVariant, OtherBit}
-use Rattle.words.proofs.{CheckLaws.{none-bad}, checks.Word.{the_type}}
+use Rattle.words.proofs.{CheckLaws.{none-bad}}
+use Rattle.words.specs.contracts.checks.Word.{the_type}
 use Rattle.derived.specs.Derived.{names, named, end_after, highest}
 
 -- The words after a token's first name nothing, and those after its third have no end.

@@ -4,19 +4,18 @@ use borrow.Author.Rules.{rules}
 use Rattle.accept.specs.Accepting.{verdict_of}
 use Rattle.accept.proofs.{AcceptLaws.{by_length, whole-tokens, by_values, by-words, by-nesting}}
 use Rattle.accept.proofs.accept.Goals as goal
-use borrow.Enum.Refused.{opened}
 
 pub returns-in_default : goal.returns-in_default
 returns-in_default c =
     let a = c.args in
-    by_length a.list.now a.sizes a.used a.limit c.lengths-length.result (opened c.in_default.in_default-own.keys2)
+    by_length a.list.now a.sizes a.used a.limit c.lengths-length.result c.in_default.in_default-own.keys2
     c.lengths-length.ensures
 
 pub returns-in_default-value : goal.returns-in_default-value
 returns-in_default-value c =
     let a = c.args in
     let whole = sym (ap verdict_of c.in-Tokens.is) ∙ c.lengths-length.ensures in
-    by_values a.list.now a.sizes a.used a.limit _ whole c.values-value.result (opened c.in_default-value.in_default-value-own.keys2)
+    by_values a.list.now a.sizes a.used a.limit _ whole c.values-value.result c.in_default-value.in_default-value-own.keys2
     c.values-value.ensures
 
 pub token_words-words-requires : goal.token_words-words-requires
@@ -30,7 +29,7 @@ returns-in_default-words c =
     let a = c.args in
     let whole = sym (ap verdict_of c.in-Tokens.is) ∙ c.lengths-length.ensures in
     let room = sym (ap verdict_of c.in-Tokens-value.is) ∙ c.values-value.ensures in
-    by-words a.list.now a.sizes a.used a.limit _ whole _ room c.token_words-words.result (opened c.in_default-words.in_default-words-own.keys2)
+    by-words a.list.now a.sizes a.used a.limit _ whole _ room c.token_words-words.result c.in_default-words.in_default-words-own.keys2
     c.token_words-words.ensures
 
 pub nesting-requires : goal.nesting-requires

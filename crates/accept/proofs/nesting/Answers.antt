@@ -40,7 +40,7 @@ returns c =
     let a = c.args in
     let all : c.loop-index.index ≡ a.n = omega arith in
     ap (λ (o : Option ℕ). verdict a.n (with_number 18 o))
-    (sym (within-last a.list.now a.limit a.n c.loop-index.depth (omega arith) (rw all c.before c.loop-index.invariant)))
+    (sym (within-last a.list.now a.limit a.n c.loop-index.depth (omega arith) (rw all at c.loop-index.invariant)))
 
 pub loop-index-init : goal.loop-index-init
 loop-index-init c =

@@ -32,5 +32,5 @@ returns-then-end-here c =
     sym (legal c.before ∙ omega (arith, c.if-end-here.true))
 
 pub returns : goal.returns
-returns-in_default c =
+returns c =
     sym (legal c.before ∙ omega (arith, c.if-end-here.false))

@@ -23,5 +23,5 @@ with-requires c =
     (c.is_low_operator.ensures c.if-is_low_operator.true).last
 
 pub returns : goal.returns
-returns-then-is_low_operator c =
+returns c =
     c.with_any.ensures

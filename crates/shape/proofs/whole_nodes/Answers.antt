@@ -36,7 +36,7 @@ overflow_sub-tree c =
 
 pub node_continues-requires : goal.node_continues-requires
 node_continues-requires c =
-    (omega (arith, c.loop-at.invariant.within), c.loop-at.invariant.few)
+    record { node_length_in_bounds = omega (arith, c.loop-at.invariant.within); called_le_most_nodes = c.loop-at.invariant.few }
 
 pub returns-then-not-node_continues : goal.returns-then-not-node_continues
 returns-then-not-node_continues c =

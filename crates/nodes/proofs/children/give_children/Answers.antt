@@ -20,7 +20,7 @@ bounds c = let v = c.loop-i.invariant in give-in v.0 v.2 c.loop-i-test.true
 pub classes_of-requires : goal.classes_of-requires
 classes_of-requires c =
     let b = bounds c.before.before.before.before.before in
-    omega (arith, c.set_next.auto.0)
+    omega (arith, c.set_next.auto.work)
 
 pub loop-i-smaller : goal.loop-i-smaller
 loop-i-smaller c = omega (arith, c.loop-i-test.true)
@@ -42,11 +42,11 @@ loop-i-preserved c =
 pub set_classes-requires : goal.set_classes-requires
 set_classes-requires c =
     let v = c.loop-i.invariant.2 in
-    omega (arith, c.set_first.auto.0)
+    omega (arith, c.set_first.auto.work)
 
 pub shape_of-work : goal.shape_of-work
 shape_of-work c =
-    c.set_classes.auto.0 ∙ c.set_first.auto.0 ∙ c.loop-i.invariant.2.long
+    c.set_classes.auto.work ∙ c.set_first.auto.work ∙ c.loop-i.invariant.2.long
 
 pub returns : goal.returns
 returns c =
@@ -74,7 +74,7 @@ offset_bounds-work-from c =
 
 pub bounds-work-from : goal.bounds-work-from
 bounds-work-from c =
-    (bounds c.before).0
+    (bounds c.before.before).0
 
 pub set_next-requires : goal.set_next-requires
 set_next-requires c =

@@ -1,0 +1,17 @@
+-- `next_token`: its loop passes over an item, or stops at one (Seeking).
+use Prim.Native.Nat.{ℕ, ◌+◌, ◌^◌, ◌≤◌, ◌<◌, ◌-◌}
+use mathlib.Core.Path.{refl, sym, ap, ◌∙◌, ◌≡◌}
+use native.Mathlib.Omega.{arith}
+use lib.ListN.{length}
+use Rattle.nodes.specs.Store.{wd, slot_end, classes_at}
+use Rattle.ops.specs.Classes.{shares}
+use Rattle.levels.proofs.Seeking.{Seeking, seek-start, seek-in, seek-turn, sought-leaf, sought-tree, sought-none}
+use Rattle.levels.proofs.items.next_token.Given as goal
+
+abbrev pub invariant-loop-read : goal.invariant-loop-read
+invariant-loop-read l =
+    Seeking l.initial.work l.list l.classes.0 l.work l.read l.write × (l.base ≡ l.list.base) × (l.len ≡ l.list.len)
+
+abbrev pub decreases-loop-read : goal.decreases-loop-read
+decreases-loop-read l =
+    l.len - l.read

@@ -1,0 +1,8 @@
+-- `scan::emit::place` meets its contract. Assumes nothing.
+use borrow.Author.Rules.{rules}
+use Rattle.scan.specs.Records.{token_place}
+use Rattle.scan.proofs.emit.place.Goals as goal
+
+pub returns : goal.returns
+returns c =
+    unfold token_place in c.wide.ensures

@@ -1,0 +1,7 @@
+-- `scan::emit::renamed` meets its contract. Assumes nothing.
+use borrow.Author.Rules.{rules}
+use Rattle.scan.proofs.emit.renamed.Goals as goal
+
+pub returns : goal.returns
+returns c =
+    rw c.with_operator.ensures

@@ -1,0 +1,15 @@
+-- `scan::scan::turns` meets its contract. The loop's invariant: the walk came here, in as many words. The measure is the place. Assumes
+use mathlib.Core.Path.{refl, ◌∙◌}
+use native.Mathlib.Omega.{arith}
+use borrow.Author.Rules.{rules}
+use Rattle.scan.specs.{Turns.{want}, Scanning.{reached, stopped}}
+use Rattle.scan.proofs.{WalkingLaws.{Walking, wanted, ended}}
+use Rattle.scan.proofs.scan.turns.Given as goal
+
+abbrev pub invariant-loop-t : goal.invariant-loop-t
+invariant-loop-t l =
+    Walking l.list l.table l.used want l.initial.s.left l.initial.work l.work l.s
+
+abbrev pub decreases-loop-t : goal.decreases-loop-t
+decreases-loop-t l =
+    l.s.left

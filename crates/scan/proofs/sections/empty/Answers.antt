@@ -1,0 +1,27 @@
+-- `scan::sections::empty` meets its contract. Assumes nothing.
+use mathlib.Core.Path.{refl, sym, ap, ◌∙◌}
+use native.Mathlib.Omega.{arith}
+use Rattle.scan.specs.States.{view_of, given, stops}
+use Rattle.scan.proofs.{TurnLaws.{two-stand}, SectionLaws.{empty-called, empty-far}}
+use borrow.Author.Rules.{rules}
+use Rattle.scan.proofs.sections.empty.Goals as goal
+
+pub call-requires : goal.call-requires
+unfolding view_of
+call-requires c =
+    let g = c.requires.0 in
+    let u = c.requires.1 in
+    let far = empty-far _ _ (view_of _ c.args.s) u.place (c.is_empty_call.ensures c.if-is_empty_call.true _ (sym
+    g.sound.top)) in
+    let t = g.sound.top in
+    ((g, two-stand g (λ e. omega (arith, e, t, far.1))), (far.0, omega (arith, u.within, u.few), omega arith))
+
+pub returns-then-is_empty_call : goal.returns-then-is_empty_call
+unfolding view_of
+returns-then-is_empty_call c =
+    empty-called _ 0 _ _ (c.is_empty_call.ensures c.if-is_empty_call.true _ (sym c.requires.0.sound.top))
+    c.call.ensures
+
+pub returns : goal.returns
+returns-then-is_empty_call c =
+    stops refl

@@ -1,0 +1,16 @@
+-- `scan::stack::take` meets its contract. Assumes nothing.
+use native.Mathlib.Omega.{arith}
+use borrow.Author.Rules.{rules}
+use Rattle.scan.proofs.{TurnLaws.{lay-deep, takes, take-free}}
+use Rattle.scan.proofs.stack.take.Goals as goal
+
+pub pop-requires : goal.pop-requires
+pop-requires c =
+    let d = lay-deep _ c.args.s _ c.lay-t.ensures in
+    (c.lay-t.ensures.sound, omega (arith, d, c.requires.2))
+
+pub returns : goal.returns
+returns c =
+    let g = c.requires in
+    let b = takes _ _ g.0 c.lay-t.ensures c.pop.ensures in
+    (b, take-free _ _ g.0 g.1 g.2 b)

@@ -1,0 +1,37 @@
+-- `scan::steps::question` meets its contract: with the `:` that waits on top, or without one. Assumes nothing.
+use mathlib.Core.Path.{sym, ◌∙◌}
+use native.Mathlib.Omega.{arith}
+use borrow.Author.Rules.{rules}
+use Rattle.scan.proofs.{SettleLaws.{based-ground}, TurnLaws.{settled-stands, two-stand, pair-above, question-takes, question-asks}}
+use Rattle.scan.proofs.steps.question.Goals as goal
+
+pub settle-s-requires : goal.settle-s-requires
+settle-s-requires c =
+    let g = c.requires in
+    ((g.0.sound, omega (arith, g.0.room)), based-ground 805306368 (omega arith) g.0.based)
+
+pub take-t-requires : goal.take-t-requires
+take-t-requires c =
+    let b = c.settle-s.ensures in
+    let g = settled-stands 805306368 1 (omega arith) c.requires.0 b.0 b.1 in
+    (b.0.sound, omega (arith, g.room), two-stand g (pair-above _ (sym c.is_unpaired.ensures ∙ c.if-is_unpaired.true)))
+
+pub wait-requires : goal.wait-requires
+wait-requires c = (
+  (c.take-t.ensures.0.sound, omega (arith, c.take-t.ensures.1, c.settle-s.ensures.1, c.requires.0.room)),
+  omega (arith, c.requires.1),
+)
+
+pub wait-requires-2 : goal.wait-requires-2
+wait-requires-2 c =
+    ((c.settle-s.ensures.0.sound, omega (arith, c.settle-s.ensures.1, c.requires.0.room)), omega (arith, c.requires.1))
+
+pub returns-then-is_unpaired : goal.returns-then-is_unpaired
+returns-then-is_unpaired c =
+    question-takes _ _ c.settle-s.ensures.0 _ c.is_unpaired.ensures c.if-is_unpaired.true
+    c.take-t.ensures.0 c.wait.ensures
+
+pub returns : goal.returns
+returns c =
+    question-asks _ _ c.settle-s.ensures.0 _ c.is_unpaired.ensures c.if-is_unpaired.false
+    c.wait-2.ensures

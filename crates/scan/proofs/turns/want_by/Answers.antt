@@ -1,0 +1,27 @@
+-- `scan::turns::want_by` meets its contract. Assumes nothing.
+use mathlib.Core.Path.{refl}
+use Rattle.scan.specs.{Turns.{want_by}, States.{stops}}
+use Rattle.scan.proofs.{ClassLaws.{want-class, want-closer}}
+use borrow.Author.Rules.{rules}
+use Rattle.scan.proofs.turns.want_by.Goals as goal
+
+pub returns-in-1 : goal.returns-in-1
+unfolding want_by
+returns-in-1 c =
+    want-class _ _ c.args.used _ _ c.requires.0.1 c.entry_of.ensures 1 c.in-1.is
+    c.leaf.ensures
+
+pub returns-in-2 : goal.returns-in-2
+returns-in-2 c =
+    want-closer _ _ c.args.used _ _ c.requires.0.1 c.entry_of.ensures c.in-2.is
+    c.wait.ensures
+
+pub returns-in-5 : goal.returns-in-5
+unfolding want_by
+returns-in-5 c =
+    want-class _ _ c.args.used _ _ c.requires.0.1 c.entry_of.ensures 5 c.in-5.is
+    c.empty.ensures
+
+pub returns-in_default : goal.returns-in_default
+returns-in_default c =
+    stops refl

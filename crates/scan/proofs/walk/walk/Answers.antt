@@ -1,0 +1,19 @@
+-- `scan::walk::walk` meets its contract. Assumes nothing.
+use mir.Facts.{to_z-of_z}
+use borrow.Author.Rules.{rules}
+use Rattle.scan.proofs.{FoundLaws.{scanned}, WalkLaws.{can-emit, has-emitted}}
+use Rattle.scan.proofs.walk.walk.Goals as goal
+
+pub emit-nodes-requires : goal.emit-nodes-requires
+emit-nodes-requires c =
+    let a = c.args in
+    let k = scanned c.requires a.used a.version _ (to_z-of_z c.ranges.version) c.scan-scanned.ensures
+    c.in-Records.is in
+    can-emit _ _ _ _ c.requires _ a.version _ _ k.2 k.1 k.0
+
+pub returns-in-Records : goal.returns-in-Records
+returns-in-Records c =
+    let a = c.args in
+    let k = scanned c.requires a.used a.version _ (to_z-of_z c.ranges.version) c.scan-scanned.ensures
+    c.in-Records.is in
+    has-emitted _ _ _ _ c.requires _ a.version _ _ k.2 k.1 k.0 _ _ c.emit-nodes.ensures.0 c.emit-nodes.ensures.1

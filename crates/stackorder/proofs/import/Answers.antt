@@ -1,0 +1,32 @@
+-- `stackorder::import` meets its contract: answer 24 first, then 25, or the words in the other order. Assumes nothing.
+use mathlib.Core.Path.{◌≡◌}
+use Rattle.molang.specs.StackOrder.{ReorderCall, import_refusal}
+use Rattle.stackorder.specs.{Answers.{call}, Filled.{refusal_in}}
+use Rattle.stackorder.proofs.{EntryLaws.{import-first, can-import, imported}}
+use borrow.Author.Rules.{rules}
+use Rattle.stackorder.proofs.import.Goals as goal
+use Rattle.stackorder.proofs.import.Goals.{After-first_of-refusal, Start}
+
+-- The call, by the values at entry.
+abbrev the_call : Start → ReorderCall
+the_call start = call start.args.words.now start.args.output.now
+
+-- Why it is turned back, if it is.
+turned-back : (c : After-first_of-refusal)
+    → refusal_in c.first_of-refusal.result ≡ import_refusal (the_call c.before.before.before.before.before.before)
+turned-back c =
+    let a = c.args in
+    import-first a.words.now a.output.now c.stack_fault.result _ _ _ c.stack_fault.ensures
+    c.numbered-not_a_stack.ensures c.short_output-short.ensures c.first_of-refusal.ensures
+
+pub fill-requires : goal.fill-requires
+fill-requires c =
+    let a = c.args in
+    can-import a.words.now a.output.now _ (turned-back c.before)
+
+pub returns : goal.returns
+returns c =
+    let a = c.args in
+    let parts = imported a.words.now a.output.now _ (turned-back c.before.before.before.before) c.fill.result c.fill.new.output
+    c.fill.ensures in
+    record { result_value = parts.0; output_after = parts.1 }

@@ -1,0 +1,13 @@
+-- `stackorder::refusal::short_output` meets its contract: the output is shorter, or not. Assumes nothing.
+use mathlib.Core.Path.{sym}
+use borrow.Author.Tests.{le-leb, lt-leb}
+use Rattle.molang.proofs.FirstFailure.{must-true, must-false}
+use Rattle.stackorder.proofs.refusal.short_output.Goals as goal
+
+pub returns-then-output-words : goal.returns-then-output-words
+returns-then-output-words c =
+    sym (must-false _ _ (lt-leb _ _ c.if-output-words.true))
+
+pub returns : goal.returns
+returns c =
+    sym (must-true _ _ (le-leb _ _ c.if-output-words.false))

@@ -1,0 +1,15 @@
+-- `stackorder::reorder::reorder` meets its contract. The loop's invariant: what is out and what is to come are the whole tree in the other
+use mathlib.Core.Path.{◌≡◌, refl, ap, ◌∙◌}
+use borrow.Author.Rules.{rules}
+use lib.ListN.{length}
+use Rattle.stackorder.specs.{declared.reorder.Direction.{Direction}, Reorder.{CanReorder, other_way, first_end}}
+use Rattle.stackorder.proofs.ReorderLaws.{Walks, way_of, last_within, begins, can, again, less, ends}
+use Rattle.stackorder.proofs.reorder.reorder.Given as goal
+
+abbrev pub invariant-loop-cursor : goal.invariant-loop-cursor
+invariant-loop-cursor l =
+    (g : CanReorder l.direction l.words l.initial.output) → Walks g l.output l.cursor
+
+abbrev pub decreases-loop-cursor : goal.decreases-loop-cursor
+decreases-loop-cursor l =
+    way_of l.direction l.words l.cursor
