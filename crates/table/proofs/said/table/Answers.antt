@@ -5,14 +5,10 @@ use Rattle.text.specs.Text.{decimal_in, decimal, numbered}
 use Rattle.table.specs.Said.{text_in, signs, operator_text, operand_text, named_text, item_text, operands_after, items_text, operators_text}
 use Rattle.table.specs.Said.{children_text, node_text, tree_text, integer_text, version_text, zeros_text, repeated_text, read_at_text}
 use Rattle.table.specs.Said.{read_within_text, read_at_all_text, writing_text, asked_text, line_text, lines_text, table_text}
-use Rattle.table.proofs.said.table.Statement.{statement}
-use Rattle.table.proofs.said.table.Tie as tie
+use Rattle.table.proofs.said.table.Goals as goal
 
-returns : tie.Need-returns
+pub returns : goal.returns
 unfolding items_of marks_of answers_of lines_of version_of decimal_in decimal numbered text_in signs operator_text operand_text named_text item_text
     operands_after items_text operators_text children_text node_text tree_text integer_text version_text zeros_text repeated_text read_at_text
     read_within_text read_at_all_text writing_text asked_text line_text lines_text table_text
 returns c = refl
-
-pub table_spec : {M : Type 1} → statement M
-table_spec = tie.close (tie.spec returns)
