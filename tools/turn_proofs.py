@@ -86,6 +86,23 @@ def part_names(names):
     return [(["1"] * k + (["0"] if k < len(names) - 1 else []), n) for k, n in enumerate(names)]
 
 
+def alias_parts(block, f, table, own):
+    """Parts of a contract of several clauses, under a name that a let binds to it."""
+    steps = {}
+    for p, _ in zip(f.places, f.new_places):
+        said = f.clauses.get(p[3], ([], []))[1]
+        if len(said) > 1:
+            steps[p[2][1]] = said
+    asked = (table["pre"] or {}).get("fields") or own[0]
+    for m in re.finditer(r"let (%s) =\s+[\w.-]*?\.(?:(%s)\.ensures|requires)\s+in\b" % (IDENT, IDENT), block):
+        names = steps.get(m.group(2)) if m.group(2) else asked
+        if not names or len(names) < 2:
+            continue
+        for path, n in part_names(names):
+            block = re.sub(r"(?<![\w'.-])%s%s(?![\w-])" % (re.escape(m.group(1)), "".join(r"\." + x for x in path)), f"{m.group(1)}.{n}", block)
+    return block
+
+
 def split_tuple(term, count):
     """The parts of a bracketed tuple, the last one nested, or None."""
     term = term.strip()
@@ -117,16 +134,8 @@ def split_tuple(term, count):
 
 def named_parts(block, f, new, own):
     """What answers several named clauses is a record of them."""
-    names = None
-    if re.match(r"returns(?:-|$)", new):
-        names = own[1]
-    else:
-        m = re.match(r"(.+?)-requires(?:-|$)", new)
-        if m:
-            for p, n in zip(f.places, f.new_places):
-                if p[3] and (p[2][1] == m.group(1) or p[3].split("::")[-1] == re.split(r"-", m.group(1))[0]):
-                    names = f.clauses.get(p[3], ([], []))[0]
-                    break
+    old = next((o for o, n in f.table["needs"] if n == new), None)
+    names = f.table["asked"].get(old) or f.table["asked"].get(new)
     if not names or len(names) < 2:
         return block
     # The clauses of the answer: after `=`, and behind the last `in` at no depth.
@@ -222,6 +231,8 @@ class Function:
         self.clauses = contracts or {}
         self.callees = callees or {}
         self.loops = [l[0][1] for l in table["loops"]]
+        self.handed = bool(any(table["clauses"]) or table["asked"] or table["pre"])
+        self.view = bool(self.loops or self.handed)
         self.places = table["places"]
         self.new_places = table["places_by_name"]
         self.by_old = {}
@@ -339,8 +350,8 @@ def turn_paths(text, fields, settled):
         parts = m.group(0).split(".")[1:]
         for i, name in enumerate(parts):
             key = name.replace("-", "_")
-            key = key if key in fields else key[0].lower() + key[1:]
-            if i and parts[i - 1] in ("args", "self", "result", "new", "loop", "requires", "initial"):
+            key = key if key in fields else key.lower()
+            if any(x in ("args", "self", "result", "new", "requires", "initial", "invariant", "ensures") for x in parts[:i]):
                 continue
             if key in fields:
                 rest = "".join("." + x for x in parts[i + 1 :])
@@ -351,6 +362,7 @@ def turn_paths(text, fields, settled):
                         return head + "." + new + rest[len(want) :]
         return m.group(0)
 
+    text = re.sub(r"\.(well-formed|type-inv)(?![\w-])", lambda m: "." + m.group(1).replace("-", "_"), text)
     text = re.sub(r"(?:\.before)+(?=\.(?!before(?![\w-]))[A-Za-z])", "", text)
     return re.sub(r"(?<!args)\.(%s)((?:\.(?:%s|[0-9]+))*)(?![\w'-])" % (IDENT, IDENT), one, text)
 
@@ -461,19 +473,21 @@ def turn(path, crate, module, table, callees, contracts):
         it = f.place(m.group(1))
         if not it:
             return m.group(0)
-        if f.loops:
-            whole.append(1)
-            rest = " ".join(f"goal.the-invariant-{x} goal.the-decreases-{x}" for x in f.loops)
-            return f"(lts.{it[0][0]} tie.the-claims reads.Pre reads.Post {rest})"
-        used_places.add(it[1])
-        return it[1]
+        whole.append(1)
+        rest = "".join(f" goal.the-invariant-{x} goal.the-decreases-{x}" for x in f.loops)
+        handed = " tie.handed_clauses" if f.handed else ""
+        return f"(lts.{it[0][0]} tie.the-claims reads.Pre reads.Post{rest}{handed})"
 
     invs = sorted(invariants, key=len, reverse=True)
     inv_names = "|".join(re.escape(x) for x in invs)
     need_names = {old: new for old, new in needs}
 
     def renamed(b):
-        if len(own[0]) > 1:
+        names_ = (table["pre"] or {}).get("fields") or []
+        if len(names_) > 1:
+            for path, n in part_names(names_):
+                b = re.sub(r"\.requires%s(?![\w-])" % "".join(r"\." + x for x in path), ".requires." + n, b)
+        elif len(own[0]) > 1:
             for path, n in part_names(own[0]):
                 b = re.sub(r"\.requires%s(?![\w-])" % "".join(r"\." + x for x in path), ".requires." + n, b)
         for old, new in rename.items():
@@ -506,20 +520,20 @@ def turn(path, crate, module, table, callees, contracts):
             fields.update(f.fields(f.chain(at)))
         var = re.search(r"(?m)^%s\s+(%s)" % (re.escape(name or "?"), IDENT), b) if name in rename else re.search(r"\((%s) : tie\." % IDENT, b)
         if at and var:
-            b = turn_befores(b, f, var.group(1), at, helpers, bool(f.loops) and name in rename and module not in FLAT)
+            b = turn_befores(b, f, var.group(1), at, helpers, (f.view != (module in FLAT)) and name in rename)
         b = turn_paths(types(b), fields, None)
         if name in rename:
             b = re.sub(r"(?m)^(?:pub )?%s(?= :)" % re.escape(name), "pub " + rename[name], b, count=1)
             b = re.sub(r"(?m)^(%s \S+) κs(?= )" % re.escape(name), r"\1", b)
-            b = named_parts(b, f, rename[name], own)
-        out_blocks.append(renamed(b))
+        b = alias_parts(renamed(b), f, table, own)
+        out_blocks.append(named_parts(b, f, rename[name], own) if name in rename else b)
     for new, at, b in answers:
         fields = dict(all_fields)
         if f.place(at):
             fields.update(f.fields(f.chain(at)))
         head_, _, inner = b.partition(" =\n")
-        inner = turn_befores(inner, f, head_.split("\n")[-1].split()[1], at, helpers, bool(f.loops) and module not in FLAT)
-        out_blocks.append(named_parts(head_ + " =\n" + renamed(turn_paths(types(inner), fields, None)), f, new, own))
+        inner = turn_befores(inner, f, head_.split("\n")[-1].split()[1], at, helpers, f.view != (module in FLAT))
+        out_blocks.append(named_parts(head_ + " =\n" + alias_parts(renamed(turn_paths(types(inner), fields, None)), f, table, own), f, new, own))
     text_out = "\n\n".join(out_blocks)
     text_out = text_out.replace("search needs", "search rules")
     text_out, opens = re.subn(r"(?<![\w'.-])([a-z]\w*(?:\.[\w-]+)*\.in_default[\w-]*-own\.keys\d+)", r"(opened \1)", text_out)

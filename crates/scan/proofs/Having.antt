@@ -35,6 +35,11 @@ data TopColon (T : List Token) (r : Rules) (grade : ℕ → ℕ) : Frames → Li
 top-is-colon : (T : List Token) (r : Rules) (grade : ℕ → ℕ) (W : Frames) (S : List ℕ) → StackIs T r grade W S
     → top_word S / 67108864 % 2 ≡ 1 → TopColon T r grade W S
 unfolding top_word
+top-is-colon T r grade outside [] x4 l = elim x4 [ ]
+top-is-colon T r grade outside (w ∷ (_ ∷ _)) x10 l = elim x10 [ ]
+top-is-colon T r grade (waits j y W) [] x5 l = elim x5 [ ]
+top-is-colon T r grade (colon k e W) [] x6 l = elim x6 [ ]
+top-is-colon T r grade (closes c W) [] x7 l = elim x7 [ ]
 top-is-colon T r grade outside (w ∷ []) (bottom z) l = let e : w / 67108864 ≡ 0 = omega (arith, z) in absurd (omega (arith, e, l))
 top-is-colon T r grade (waits j y W) (w ∷ S) (joint o q) l = let a = o.plain in absurd (omega (arith, a, l))
 top-is-colon T r grade (colon k e W) (w ∷ S) (pair o q) l = top-colon o q
@@ -54,6 +59,11 @@ module _ (r : Rules) (g : Walking) (h : Known r g) where
   -- A `:` on top shows in its word.
   colon-bit : (W : Frames) (S : List ℕ) → StackIs T r grade W S → has_colon W ≡ true → eqb (top_word S / 67108864 % 2) 1 ≡ true
   unfolding has_colon top_word
+  colon-bit outside [] x4 c = elim x4 [ ]
+  colon-bit outside (w ∷ (_ ∷ _)) x10 c = elim x10 [ ]
+  colon-bit (waits j y W) [] x5 c = elim x5 [ ]
+  colon-bit (colon k e W) [] x6 c = elim x6 [ ]
+  colon-bit (closes d W) [] x7 c = elim x7 [ ]
   colon-bit outside (w ∷ []) (bottom z) c = absurd (false≢true c)
   colon-bit (waits j y W) (w ∷ S) (joint o q) c = absurd (false≢true c)
   colon-bit (colon k e W) (w ∷ S) (pair o q) c = ap (λ (n : ℕ). eqb (n % 2) 1) o.grade
@@ -385,6 +395,10 @@ module _ (r : Rules) (g : Walking) (h : Known r g) where
           → Stands T r grade Ex none y X L (record { stack = S; records = R }) → k.op ≡ Operator.conditional
           → Awaits r g h (pushed (at + 805830656) (read_from at (taken (record { left = v.left; stack = S; records = R }))))
       unfolding taken popped laid tail_of top_word pushed read_from after front laid_after held_by sign_of has_minus is_minus rank_of label_of entries_of
+      chooses-by y outside S R x4 t i = elim x4 [ ]
+      chooses-by y (waits _ _ _) S R x8 t i = elim x8 [ ]
+      chooses-by y (colon c e X) [] R x9 t i = elim x9 [ ]
+      chooses-by y (closes _ _) S R x9 t i = elim x9 [ ]
       chooses-by y (colon c e X) (w ∷ S) R (top-colon o n) t i =
           let d = t.held in
           let f : k ∷ tokens y (c ∷ tokens e (after X)) ≡ k ∷ L = ap (λ (M : List Token). k ∷ M) t.read in

@@ -92,6 +92,10 @@ module _ (r : Rules) (g : Walking) (h : Known r g) where
         → Reads r g h (section_laid 1073741824 at (record { left = left; stack = S; records = R }))
     unfolding section_laid laid read_from popped top_word tail_of entries_of tokens after trees signed is_text strength outline is_statement is_item laid_after
         ends_operand ends_before
+    section-by y outside S x5 t f a n = elim x5 [ ]
+    section-by y (waits _ _ _) S x9 t f a n = elim x9 [ ]
+    section-by y (colon _ _ _) S x10 t f a n = elim x10 [ ]
+    section-by y (closes c X) [] x13 t f a n = elim x13 [ ]
     section-by y (closes c X) (w ∷ S) (top-closer d s) t f a n =
         let b = f c (sym d.op) in
         let k = t.held in
@@ -141,6 +145,10 @@ module _ (r : Rules) (g : Walking) (h : Known r g) where
           → Reads r g h (call_laid at (section_laid 1073741824 at (record { left = left; stack = S; records = R })))
       unfolding call_laid section_laid laid read_from popped top_word tail_of tokens after trees signed is_text strength outline is_statement is_item laid_after
           ends_operand ends_before
+      math-by y outside S x4 t five f = elim x4 [ ]
+      math-by y (waits _ _ _) S x8 t five f = elim x8 [ ]
+      math-by y (colon _ _ _) S x9 t five f = elim x9 [ ]
+      math-by y (closes c X) [] x11 t five f = elim x11 [ ]
       math-by y (closes c X) (w ∷ S) (top-closer d s) t five f =
           let k = t.held in
           reads-item r g h (Texts.math_call m o c y) X (at - 5) S _ (m ∷ o ∷ L)
@@ -164,6 +172,10 @@ module _ (r : Rules) (g : Walking) (h : Known r g) where
           → Reads r g h (call_laid at (section_laid 1073741824 at (record { left = left; stack = S; records = R })))
       unfolding call_laid section_laid laid read_from popped top_word tail_of tokens after trees signed is_text strength outline is_statement is_item laid_after
           ends_operand ends_before
+      query-by y outside S x4 t five f = elim x4 [ ]
+      query-by y (waits _ _ _) S x8 t five f = elim x8 [ ]
+      query-by y (colon _ _ _) S x9 t five f = elim x9 [ ]
+      query-by y (closes c X) [] x11 t five f = elim x11 [ ]
       query-by y (closes c X) (w ∷ S) (top-closer d s) t five f =
           let k = t.held in
           let lacking : lacks Operator.semicolon y ≡ true = lacks-unused g Operator.semicolon y (c ∷ after X)
@@ -209,6 +221,11 @@ module _ (r : Rules) (g : Walking) (h : Known r g) where
 
     is-bottom : (W : Frames) (S : List ℕ) → StackIs T r grade W S → top_word S / 32768 ≡ 7 → Bottom W
     unfolding top_word
+    is-bottom outside [] x4 e = elim x4 [ ]
+    is-bottom outside (w ∷ (_ ∷ _)) x10 e = elim x10 [ ]
+    is-bottom (waits j x W) [] x6 e = elim x6 [ ]
+    is-bottom (colon k x W) [] x7 e = elim x7 [ ]
+    is-bottom (closes k W) [] x7 e = elim x7 [ ]
     is-bottom outside (w ∷ []) (bottom z) e = at-bottom
     is-bottom (waits j x W) (w ∷ S) (joint o q) e = let c = o.grade in let b = h.told.ground (rank_of r j) in absurd (omega (arith, c, b, e))
     is-bottom (colon k x W) (w ∷ S) (pair o q) e = let c = o.grade in absurd (omega (arith, c, e))
@@ -217,6 +234,9 @@ module _ (r : Rules) (g : Walking) (h : Known r g) where
     finished : (x : Text) (W : Frames) (S R : List ℕ) → Bottom W → Stands T r grade Ex none x W a.read (record { stack = S; records = R })
         → v.left ≡ 0 → Finished r g h (record { left = v.left; stack = S; records = R })
     unfolding after laid_after
+    finished x (waits _ _ _) S R x7 t z = elim x7 [ ]
+    finished x (colon _ _ _) S R x8 t z = elim x8 [ ]
+    finished x (closes _ _) S R x8 t z = elim x8 [ ]
     finished x outside S R at-bottom t z =
         let p = a.place in
         let i = p.place in

@@ -16,6 +16,7 @@ no-ground from = elim [ ]
 
 deeper : (from : ℕ) (S : List ℕ) → Grounded from S → from ≤ top_word S → Grounded from (tail_of S)
 unfolding top_word tail_of
+deeper from [] x'' t = elim x'' [ ]
 deeper from (w ∷ S) (here l) t = absurd (omega (arith, l, t))
 deeper from (w ∷ S) (there g) t = g
 
@@ -154,6 +155,7 @@ based-ground from l (above b) = there (based-ground from l b)
 
 pub based-settled : (from : ℕ) → 262144 ≤ from → (S R : List ℕ) → Based S → Based (settled_lists from S R).stack
 unfolding settled_lists
+based-settled from l [] R x' = elim x' [ ]
 based-settled from l (w ∷ []) R (bottom e) = rw (lt-leb from w (omega (arith, e, l)), settled_lists) (bottom e)
 based-settled from l (w ∷ S) R (above b) = by (leb from w) refl (based-settled from l S (w % 67108864 ∷ R) b)
   where
@@ -164,6 +166,7 @@ based-settled from l (w ∷ S) R (above b) = by (leb from w) refl (based-settled
 -- If another word is on top, two wait, and it stays when that word waits no more.
 pub based-two : {S : List ℕ} → Based S → (top_word S / 32768 ≡ 7 → ⊥) → 2 ≤ length S
 unfolding top_word
+based-two (above {w = w} {S = []} b) n = elim b [ ]
 based-two (bottom e) n = absurd (n e)
 based-two (above {S = w ∷ S} b) n = omega arith
 

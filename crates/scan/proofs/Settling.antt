@@ -138,6 +138,11 @@ module _ (T : List Token) (r : Rules) (grade : ℕ → ℕ) (Expected : ℕ → 
     pub settles : (x : Text) (W : Frames) (S R : List ℕ) → Stands s x W L (record { stack = S; records = R })
         → StackIs T r grade W S → Settled m s x L (settled_lists (f * 134217728) S R)
     unfolding settled_lists
+    settles x outside [] R h x6 = elim x6 [ ]
+    settles x outside (w ∷ (_ ∷ _)) R h x12 = elim x12 [ ]
+    settles x (waits j y W) [] R h x7 = elim x7 [ ]
+    settles x (colon k e W) [] R h x8 = elim x8 [ ]
+    settles x (closes c W) [] R h x9 = elim x9 [ ]
     settles x outside (w ∷ []) R h (bottom z) =
         let a = cut.above in stays x outside w [] R (below w (omega (arith, z, a))) tt h
     settles x (waits j y W) (w ∷ S) R h (joint o q) =
@@ -169,6 +174,11 @@ module _ (T : List Token) (r : Rules) (grade : ℕ → ℕ) (Expected : ℕ → 
 
   -- The lowest word is that of the whole list.
   pub based : (W : Frames) (S : List ℕ) → StackIs T r grade W S → Based S
+  based outside [] x'' = elim x'' [ ]
+  based outside (w ∷ (_ ∷ _)) x7 = elim x7 [ ]
+  based (waits j y W) [] x3 = elim x3 [ ]
+  based (colon k e W) [] x4 = elim x4 [ ]
+  based (closes c W) [] x5 = elim x5 [ ]
   based outside (w ∷ []) (bottom z) = Views.bottom z
   based (waits j y W) (w ∷ S) (joint o q) = Views.above (based W S q)
   based (colon k e W) (w ∷ S) (pair o q) = Views.above (based W S q)

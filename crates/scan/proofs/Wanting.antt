@@ -30,6 +30,11 @@ pub data TopCloser (T : List Token) (r : Rules) (grade : ℕ → ℕ) : Frames �
 pub top-is-closer : (T : List Token) (r : Rules) (grade : ℕ → ℕ) → ((j : ℕ) → 1 ≤ grade j) → (W : Frames) (S : List ℕ)
     → StackIs T r grade W S → top_word S / 32768 ≤ 5 → TopCloser T r grade W S
 unfolding top_word
+top-is-closer T r grade one outside [] x4 l = elim x4 [ ]
+top-is-closer T r grade one outside (w ∷ (_ ∷ _)) x10 l = elim x10 [ ]
+top-is-closer T r grade one (waits j y W) [] x5 l = elim x5 [ ]
+top-is-closer T r grade one (colon k e W) [] x6 l = elim x6 [ ]
+top-is-closer T r grade one (closes c W) [] x7 l = elim x7 [ ]
 top-is-closer T r grade one outside (w ∷ []) (bottom z) l = absurd (omega (arith, z, l))
 top-is-closer T r grade one (waits j y W) (w ∷ S) (joint o q) l =
     let a = o.grade in let b = one (rank_of r j) in absurd (omega (arith, a, b, l))
@@ -154,6 +159,10 @@ module _ (r : Rules) (g : Walking) (h : Known r g) where
         → Reads r g h (call_laid at (section_laid 0 at (record { left = left; stack = S; records = R })))
     unfolding call_laid section_laid laid read_from popped top_word tail_of entries_of tokens after trees signed laid_onto count is_text strength outline is_statement
         is_item laid_after ends_operand ends_before
+    empty-by outside S left x9 k e a n op five math u = elim x9 [ ]
+    empty-by (waits _ _ _) S left x13 k e a n op five math u = elim x13 [ ]
+    empty-by (colon _ _ _) S left x14 k e a n op five math u = elim x14 [ ]
+    empty-by (closes c X) [] left x21 k e a n op five math u = elim x21 [ ]
     empty-by (closes c X) (w ∷ S) left (top-closer d s) k e a n op five math u =
         let b = back a y in
         let low = small r g h (at - 5) _ b in

@@ -4,6 +4,13 @@ use Rattle.stackorder.specs.Filled.{refusal_in}
 use Rattle.stackorder.proofs.{EntryLaws.{turned-back, put-in-order}}
 use borrow.Author.Rules.{rules}
 use Rattle.stackorder.proofs.fill.Goals as goal
+use Rattle.stackorder.proofs.fill.Lts as lts
+use Rattle.stackorder.proofs.fill.Tie as tie
+use Rattle.stackorder.proofs.fill.Reads as reads
+
+-- The call is not turned back.
+no-refusal : (c : (lts.After-enum_told tie.the-claims reads.Pre reads.Post)) → refusal_in c.args.refusal ≡ none
+no-refusal c = ap refusal_in c.in_default.is
 
 pub returns-in-Told : goal.returns-in-Told
 returns-in-Told c =
@@ -14,10 +21,10 @@ returns-in-Told c =
 pub returns : goal.returns
 returns c =
     let a = c.args in
-    let none = ap refusal_in c.in_default.is in
+    let none = no-refusal c.before.before.before.before in
     put-in-order a.direction a.words.now a.output.now (refusal_in a.refusal) none (c.requires none)
     c.reorder.new.output c.reorder.ensures
 
 pub reorder-requires : goal.reorder-requires
 reorder-requires c =
-    c.requires (ap refusal_in c.in_default.is)
+    c.requires (no-refusal c.before)

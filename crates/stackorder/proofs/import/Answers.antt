@@ -5,14 +5,16 @@ use Rattle.stackorder.specs.{Answers.{call}, Filled.{refusal_in}}
 use Rattle.stackorder.proofs.{EntryLaws.{import-first, can-import, imported}}
 use borrow.Author.Rules.{rules}
 use Rattle.stackorder.proofs.import.Goals as goal
-use Rattle.stackorder.proofs.import.Goals.{After-first_of-refusal, Start}
+use Rattle.stackorder.proofs.import.Lts as lts
+use Rattle.stackorder.proofs.import.Tie as tie
+use Rattle.stackorder.proofs.import.Reads as reads
 
 -- The call, by the values at entry.
-abbrev the_call : Start → ReorderCall
+abbrev the_call : (lts.Start tie.the-claims reads.Pre reads.Post tie.handed_clauses) → ReorderCall
 the_call start = call start.args.words.now start.args.output.now
 
 -- Why it is turned back, if it is.
-turned-back : (c : After-first_of-refusal)
+turned-back : (c : (lts.After-first_of tie.the-claims reads.Pre reads.Post tie.handed_clauses))
     → refusal_in c.first_of-refusal.result ≡ import_refusal (the_call c.before.before.before.before.before.before)
 turned-back c =
     let a = c.args in
@@ -22,11 +24,11 @@ turned-back c =
 pub fill-requires : goal.fill-requires
 fill-requires c =
     let a = c.args in
-    can-import a.words.now a.output.now _ (turned-back c.before)
+    can-import a.words.now a.output.now _ (turned-back c.before.before)
 
 pub returns : goal.returns
 returns c =
     let a = c.args in
-    let parts = imported a.words.now a.output.now _ (turned-back c.before.before.before.before) c.fill.result c.fill.new.output
+    let parts = imported a.words.now a.output.now _ (turned-back c.before.before.before.before.before) c.fill.result c.fill.new.output
     c.fill.ensures in
     record { result_value = parts.0; output_after = parts.1 }

@@ -32,7 +32,7 @@ loop-r-preserved c =
 pub returns : goal.returns
 returns c =
     let inv = c.loop-r.invariant in
-    (refl, inv.0 ∙ all-emitted _ _ _ _ _ (omega (arith, inv.2, c.loop-r-test.false)))
+    record { value = refl; tree_after = inv.0 ∙ all-emitted _ _ _ _ _ (omega (arith, inv.2, c.loop-r-test.false)) }
 
 pub shape_of-tree : goal.shape_of-tree
 shape_of-tree c =

@@ -9,11 +9,11 @@ pub at-requires : goal.at-requires
 at-requires c = omega (arith, c.place.ensures, c.requires.0.token)
 
 pub overflow_add-end : goal.overflow_add-end
-overflow_add-end c = omega (arith, c.closer-end.ensures, c.requires.0.closer-end)
+overflow_add-end c = omega (arith, c.closer-end.ensures, c.requires.0.closer)
 
 pub bounds-list-end : goal.bounds-list-end
 bounds-list-end c =
-    omega (arith, c.closer-end.ensures, c.requires.0.closer-end)
+    omega (arith, c.closer-end.ensures, c.requires.0.closer)
 
 pub returns : goal.returns
 unfolding words_of_record

@@ -9,4 +9,4 @@ pub returns : goal.returns
 unfolding call_laid read_from view_of
 returns c =
     let at = c.args.at in
-    haves (then (λ (u : View). laid (at - 5 + 262144) (read_from (at - 5) u)) c.lay_section-t.ensures.0 c.lay.ensures)
+    haves (then (λ (u : View). laid (at - 5 + 262144) (read_from (at - 5) u)) c.lay_section-t.ensures.becomes c.lay.ensures)

@@ -9,19 +9,19 @@ use Rattle.scan.proofs.sections.empty.Goals as goal
 pub call-requires : goal.call-requires
 unfolding view_of
 call-requires c =
-    let g = c.requires.0 in
-    let u = c.requires.1 in
+    let g = c.requires.stands_free in
+    let u = c.requires.up_to in
     let far = empty-far _ _ (view_of _ c.args.s) u.place (c.is_empty_call.ensures c.if-is_empty_call.true _ (sym
     g.sound.top)) in
     let t = g.sound.top in
-    ((g, two-stand g (λ e. omega (arith, e, t, far.1))), (far.0, omega (arith, u.within, u.few), omega arith))
+    record { stands_free = (g, two-stand g (λ e. omega (arith, e, t, far.1))); le_at = (far.0, omega (arith, u.within, u.few), omega arith) }
 
 pub returns-then-is_empty_call : goal.returns-then-is_empty_call
 unfolding view_of
 returns-then-is_empty_call c =
-    empty-called _ 0 _ _ (c.is_empty_call.ensures c.if-is_empty_call.true _ (sym c.requires.0.sound.top))
+    empty-called _ 0 _ _ (c.is_empty_call.ensures c.if-is_empty_call.true _ (sym c.requires.stands_free.sound.top))
     c.call.ensures
 
 pub returns : goal.returns
-returns-then-is_empty_call c =
+returns c =
     stops refl

@@ -7,7 +7,7 @@ use Rattle.scan.proofs.sections.lay_section.Goals as goal
 
 pub lay-requires : goal.lay-requires
 lay-requires c =
-    let g = c.requires.0 in
+    let g = c.requires.stands_free in
     let d = pop-deep g.0.sound g.1 c.pop-t.ensures in
     let o = pop-out g.0.sound g.1 c.pop-t.ensures in
     let s = c.pop-t.ensures.sound in
@@ -16,7 +16,5 @@ lay-requires c =
 pub returns : goal.returns
 unfolding view_of read_from
 returns c =
-    let g = c.requires.0 in (
-      section-laid g.0.sound g.1 c.pop-t.ensures _ _ c.lay.ensures,
-      section-free g.0.sound g.1 c.pop-t.ensures _ _ g.0.sound.apart c.lay.ensures,
-    )
+    let g = c.requires.stands_free in
+    record { becomes = section-laid g.0.sound g.1 c.pop-t.ensures _ _ c.lay.ensures; result_value = section-free g.0.sound g.1 c.pop-t.ensures _ _ g.0.sound.apart c.lay.ensures }

@@ -12,15 +12,16 @@ returns-then-is_plain c =
 
 pub call-requires : goal.call-requires
 call-requires c =
-    let u = c.requires.1 in (
-      c.requires.0,
-      (
+    let u = c.requires.up_to in
+    record {
+      stands_free = c.requires.stands_free;
+      le_at = (
         callable-far _ _ u.place (c.is_callable.ensures c.if-is_callable.true),
         omega
             (arith, u.within, u.few),
         omega arith,
-      ),
-    )
+      );
+    }
 
 pub returns-then-is_callable : goal.returns-then-is_callable
 returns-then-is_callable c =
@@ -28,5 +29,5 @@ returns-then-is_callable c =
     c.call.ensures
 
 pub returns : goal.returns
-returns-then-is_plain c =
+returns c =
     stops refl

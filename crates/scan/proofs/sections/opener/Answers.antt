@@ -8,25 +8,25 @@ use Rattle.scan.proofs.sections.opener.Goals as goal
 
 pub settle-s-requires : goal.settle-s-requires
 settle-s-requires c =
-    let g = c.requires.0.0 in
-    ((g.sound, omega (arith, g.room)), based-ground 268435456 (omega arith) g.based)
+    let g = c.requires.stands_free.0 in
+    record { sound = (g.sound, omega (arith, g.room)); grounded = based-ground 268435456 (omega arith) g.based }
 
 pub opened-requires : goal.opened-requires
 opened-requires c =
     let b = c.settle-s.ensures in
-    let g = settled-stands 268435456 1 (omega arith) c.requires.0.0 b.0 b.1 in
-    ((g, two-stand g (λ e. omega arith)), c.requires.1)
+    let g = settled-stands 268435456 1 (omega arith) c.requires.stands_free.0 b.becomes b.result_value in
+    record { stands_free = (g, two-stand g (λ e. omega arith)); up_to = c.requires.up_to }
 
 pub returns-then-s-op : goal.returns-then-s-op
 returns-then-s-op c =
     let a = c.args in
-    let b = c.settle-s.ensures.0 in
+    let b = c.settle-s.ensures.becomes in
     let top = top_of b in
     opener-own _ a.op a.at _ (λ e. omega arith) (omega (arith, top))
     (then-turn (opened_turn (given a.list.now a.table.now a.used) a.op a.at) b c.opened.ensures)
 
 pub returns : goal.returns
-returns c = stops c.settle-s.ensures.0.long
+returns c = stops c.settle-s.ensures.becomes.long
 
 pub returns-then-op-eq-LEFT_BRACKET : goal.returns-then-op-eq-LEFT_BRACKET
 returns-then-op-eq-LEFT_BRACKET c =

@@ -5,4 +5,4 @@ use Rattle.scan.proofs.sections.section.Goals as goal
 
 pub returns : goal.returns
 returns c =
-    haves c.lay_section.ensures.0
+    haves c.lay_section.ensures.becomes

@@ -5,7 +5,7 @@ use Rattle.scan.proofs.{SettleLaws.{Settling, starts, two, less, again, ends}}
 use Rattle.scan.proofs.stack.settle.Goals as goal
 
 pub loop-s-init : goal.loop-s-init
-loop-s-init c = starts _ _ _ c.requires.0.0 c.requires.0.1 c.requires.1
+loop-s-init c = starts _ _ _ c.requires.sound.0 c.requires.sound.1 c.requires.grounded
 
 pub lay-s-requires : goal.lay-s-requires
 lay-s-requires c = (c.loop-s.invariant.sound, c.loop-s.invariant.room)
@@ -23,7 +23,8 @@ loop-s-preserved c =
     again c.loop-s.invariant c.loop-s-test.true c.lay-s.ensures c.pop-s.ensures
 
 pub returns : goal.returns
-returns c = let i = c.loop-s.invariant in (ends i c.loop-s-test.false, i.free)
+returns c = let i = c.loop-s.invariant in
+    record { becomes = ends i c.loop-s-test.false; result_value = i.free }
 
 pub shape_of-work : goal.shape_of-work
 shape_of-work c =

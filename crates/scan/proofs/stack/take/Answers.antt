@@ -13,4 +13,4 @@ pub returns : goal.returns
 returns c =
     let g = c.requires in
     let b = takes _ _ g.0 c.lay-t.ensures c.pop.ensures in
-    (b, take-free _ _ g.0 g.1 g.2 b)
+    record { becomes = b; result_value = take-free _ _ g.0 g.1 g.2 b }

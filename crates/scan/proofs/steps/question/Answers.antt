@@ -8,30 +8,28 @@ use Rattle.scan.proofs.steps.question.Goals as goal
 pub settle-s-requires : goal.settle-s-requires
 settle-s-requires c =
     let g = c.requires in
-    ((g.0.sound, omega (arith, g.0.room)), based-ground 805306368 (omega arith) g.0.based)
+    record { sound = (g.0.sound, omega (arith, g.0.room)); grounded = based-ground 805306368 (omega arith) g.0.based }
 
 pub take-t-requires : goal.take-t-requires
 take-t-requires c =
     let b = c.settle-s.ensures in
-    let g = settled-stands 805306368 1 (omega arith) c.requires.0 b.0 b.1 in
-    (b.0.sound, omega (arith, g.room), two-stand g (pair-above _ (sym c.is_unpaired.ensures ∙ c.if-is_unpaired.true)))
+    let g = settled-stands 805306368 1 (omega arith) c.requires.0 b.becomes b.result_value in
+    (b.becomes.sound, omega (arith, g.room), two-stand g (pair-above _ (sym c.is_unpaired.ensures ∙ c.if-is_unpaired.true)))
 
 pub wait-requires : goal.wait-requires
-wait-requires c = (
-  (c.take-t.ensures.0.sound, omega (arith, c.take-t.ensures.1, c.settle-s.ensures.1, c.requires.0.room)),
-  omega (arith, c.requires.1),
-)
+wait-requires c =
+    record { sound = (c.take-t.ensures.becomes.sound, omega (arith, c.take-t.ensures.result_value, c.settle-s.ensures.result_value, c.requires.0.room)); at_bound = omega (arith, c.requires.1) }
 
 pub wait-requires-2 : goal.wait-requires-2
 wait-requires-2 c =
-    ((c.settle-s.ensures.0.sound, omega (arith, c.settle-s.ensures.1, c.requires.0.room)), omega (arith, c.requires.1))
+    record { sound = (c.settle-s.ensures.becomes.sound, omega (arith, c.settle-s.ensures.result_value, c.requires.0.room)); at_bound = omega (arith, c.requires.1) }
 
 pub returns-then-is_unpaired : goal.returns-then-is_unpaired
 returns-then-is_unpaired c =
-    question-takes _ _ c.settle-s.ensures.0 _ c.is_unpaired.ensures c.if-is_unpaired.true
-    c.take-t.ensures.0 c.wait.ensures
+    question-takes _ _ c.settle-s.ensures.becomes _ c.is_unpaired.ensures c.if-is_unpaired.true
+    c.take-t.ensures.becomes c.wait.ensures
 
 pub returns : goal.returns
 returns c =
-    question-asks _ _ c.settle-s.ensures.0 _ c.is_unpaired.ensures c.if-is_unpaired.false
+    question-asks _ _ c.settle-s.ensures.becomes _ c.is_unpaired.ensures c.if-is_unpaired.false
     c.wait-2.ensures

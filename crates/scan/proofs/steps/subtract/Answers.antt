@@ -11,7 +11,7 @@ lay-t-requires c = let g = c.requires.0 in (g.sound, omega (arith, g.room))
 
 pub operator-requires : goal.operator-requires
 operator-requires c =
-    ((lay-stands _ c.args.s _ 1 c.requires.0 c.lay-t.ensures, omega arith), (c.requires.1, omega (arith, c.requires.1)))
+    record { stands_free = (lay-stands _ c.args.s _ 1 c.requires.0 c.lay-t.ensures, omega arith); at_bound = (c.requires.1, omega (arith, c.requires.1)) }
 
 pub returns : goal.returns
 unfolding subtract_turn

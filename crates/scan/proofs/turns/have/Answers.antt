@@ -16,7 +16,7 @@ have_by-requires c =
     let g = c.requires.0 in
     let looked = c.op_at-op.ensures in
     let up = up-before _ _ g.place (λ e. omega arith) in
-    ((record { sound = g.sound; based = g.based; room = omega arith }, looked.found, looked.small), (up.0, c.requires.1))
+    record { stands_free = (record { sound = g.sound; based = g.based; room = omega arith }, looked.found, looked.small); up_to = (up.0, c.requires.1) }
 
 pub returns-then-is_let : goal.returns-then-is_let
 unfolding view_of

@@ -24,10 +24,10 @@ overflow_sub-at c =
 pub operator-requires : goal.operator-requires
 operator-requires c =
     let far = pair_far _ _ (c.is_pair.ensures c.if-is_pair.true (record { low = 0; high = 0 })) in
-    let near = up-two _ _ c.requires.1 far in
-    let g = c.requires.0 in
+    let near = up-two _ _ c.requires.up_to far in
+    let g = c.requires.stands_free in
     let r = g.room in
-    ((record { sound = g.sound; based = g.based; room = omega (arith, r) }, omega arith), (near, omega (arith, near)))
+    record { stands_free = (record { sound = g.sound; based = g.based; room = omega (arith, r) }, omega arith); at_bound = (near, omega (arith, near)) }
 
 pub returns-then-is_pair : goal.returns-then-is_pair
 returns-then-is_pair c =
@@ -36,5 +36,5 @@ returns-then-is_pair c =
     (c.is_pair.ensures c.if-is_pair.true used) c.operator.ensures
 
 pub returns : goal.returns
-returns-then-before-eq1 c =
+returns c =
     λ used. stops refl

@@ -8,18 +8,18 @@ use Rattle.scan.proofs.turns.want_by.Goals as goal
 pub returns-in-1 : goal.returns-in-1
 unfolding want_by
 returns-in-1 c =
-    want-class _ _ c.args.used _ _ c.requires.0.1 c.entry_of.ensures 1 c.in-1.is
+    want-class _ _ c.args.used _ _ c.requires.stands_free.1 c.entry_of.ensures 1 c.in-1.is
     c.leaf.ensures
 
 pub returns-in-2 : goal.returns-in-2
 returns-in-2 c =
-    want-closer _ _ c.args.used _ _ c.requires.0.1 c.entry_of.ensures c.in-2.is
+    want-closer _ _ c.args.used _ _ c.requires.stands_free.1 c.entry_of.ensures c.in-2.is
     c.wait.ensures
 
 pub returns-in-5 : goal.returns-in-5
 unfolding want_by
 returns-in-5 c =
-    want-class _ _ c.args.used _ _ c.requires.0.1 c.entry_of.ensures 5 c.in-5.is
+    want-class _ _ c.args.used _ _ c.requires.stands_free.1 c.entry_of.ensures 5 c.in-5.is
     c.empty.ensures
 
 pub returns-in_default : goal.returns-in_default

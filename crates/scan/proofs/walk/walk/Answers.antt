@@ -16,4 +16,4 @@ returns-in-Records c =
     let a = c.args in
     let k = scanned c.requires a.used a.version _ (to_z-of_z c.ranges.version) c.scan-scanned.ensures
     c.in-Records.is in
-    has-emitted _ _ _ _ c.requires _ a.version _ _ k.2 k.1 k.0 _ _ c.emit-nodes.ensures.0 c.emit-nodes.ensures.1
+    has-emitted _ _ _ _ c.requires _ a.version _ _ k.2 k.1 k.0 _ _ c.emit-nodes.ensures.value c.emit-nodes.ensures.tree_after

@@ -1,0 +1,20 @@
+-- `order::ranks` meets its contract: each table is the definition's order. Assumes nothing.
+use mathlib.Core.Path.{sym, ◌∙◌}
+use mir.Facts.{to_z-of_z}
+use borrow.Author.Rules.{rules}
+use Rattle.order.proofs.{Ranking.{before-5, at_5, from-6}}
+use Rattle.order.proofs.ranks.Goals as goal
+
+pub returns-then-is_from_6 : goal.returns-then-is_from_6
+returns-then-is_from_6 c =
+    from-6 c.args.version (sym (rw (to_z-of_z c.ranges.version) at c.is_from_6.ensures) ∙ c.if-is_from_6.true)
+
+pub returns-then-is_from_5 : goal.returns-then-is_from_5
+returns-then-is_from_5 c =
+    at_5 c.args.version (sym (rw (to_z-of_z c.ranges.version) at c.is_from_6.ensures) ∙ c.if-is_from_6.false)
+    (sym (rw (to_z-of_z c.ranges.version) at c.is_from_5.ensures) ∙ c.if-is_from_5.true)
+
+pub returns : goal.returns
+returns c =
+    before-5 c.args.version (sym (rw (to_z-of_z c.ranges.version) at c.is_from_6.ensures) ∙ c.if-is_from_6.false)
+    (sym (rw (to_z-of_z c.ranges.version) at c.is_from_5.ensures) ∙ c.if-is_from_5.false)

@@ -1,0 +1,17 @@
+-- `passes::conditional::dangling` meets its contract.
+use mathlib.Core.Path.{sym, ◌∙◌}
+use Prim.Native.Nat.{◌+◌, ◌-◌, ◌^◌, ◌≤◌, ◌<◌}
+use native.Mathlib.Omega.{arith}
+use lib.ListN.{length}
+use Rattle.nodes.specs.Store.{wd, slot_end}
+use Rattle.passes.specs.Conditional.{CanDangle}
+use Rattle.passes.proofs.ConditionalDangling.{Dangling, dangle-start, dangle-in, dangle-next, dangles-if, dangles-else, dangles-none}
+use Rattle.passes.proofs.conditional.dangling.Given as goal
+
+abbrev pub invariant-loop-i : goal.invariant-loop-i
+invariant-loop-i l =
+    CanDangle l.work l.base l.from l.len × Dangling l.work l.base l.from l.len l.i
+
+abbrev pub decreases-loop-i : goal.decreases-loop-i
+decreases-loop-i l =
+    l.len - l.i

@@ -1,0 +1,7 @@
+-- `write::spell::front_at` meets its contract, word by word. Assumes nothing.
+use borrow.Author.Rules.{rules}
+use Rattle.write.proofs.spell.front_at.Goals as goal
+
+pub returns : goal.returns
+returns c =
+    rw (← c.low-children.ensures, ← c.has_pair.ensures) c.front_of.ensures

@@ -1,0 +1,26 @@
+-- `write::spell::rise` meets its contract: the pair by `pair_first`, the span by `widen`, and the front from whether there is a pair.
+-- Assumes nothing.
+use Prim.Native.Nat.{ℕ, ◌-◌}
+use mathlib.Core.Path.{◌≡◌, ap, sym, ◌∙◌}
+use native.Mathlib.Omega.{arith}
+use lib.Seq.{get_or-drop}
+use borrow.Author.Rules.{rules}
+use Rattle.write.specs.Spine.{front_at}
+use Rattle.write.proofs.spell.rise.Goals as goal
+
+pub overflow_sub-result : goal.overflow_sub-result
+overflow_sub-result c =
+    let front : c.front_of.result ≡ front_at c.args.words.now c.args.node =
+    rw (← c.low-children.ensures, ← c.pair_first-paired.ensures.value) c.front_of.ensures in
+    omega (arith, front, c.requires.node_length_in_bounds.1)
+
+pub returns : goal.returns
+returns c =
+    let front : c.front_of.result ≡ front_at c.args.words.now c.args.node =
+    rw (← c.low-children.ensures, ← c.pair_first-paired.ensures.value) c.front_of.ensures in
+    let here = get_or-drop c.args.node c.args.words.now in
+    let parts = (
+      ap (λ (n : ℕ). c.args.place - n) front,
+      (rw (here 1 0, here 2 0) c.widen.ensures, c.pair_first-paired.ensures.1),
+    ) in
+    record { value = parts.0; high_after = parts.1.0; list_after = parts.1.1.0; to_after = parts.1.1.1 }

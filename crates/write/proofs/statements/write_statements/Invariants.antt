@@ -1,0 +1,16 @@
+-- `write::statements::write_statements` meets its contract. The loop's invariant is `Stating`; the measure is the words that are left.
+use Prim.Native.Nat.{◌-◌}
+use native.Mathlib.Omega.{arith}
+use borrow.Author.Rules.{rules}
+use lib.ListN.{length}
+use Rattle.write.proofs.StatementLaws.{Stating, stating-begins, stating-ends, stating-room, stating-within, stating-falls}
+use Rattle.write.proofs.{StatementLaws.{stating-on}}
+use Rattle.write.proofs.statements.write_statements.Given as goal
+
+abbrev pub invariant-loop-at : goal.invariant-loop-at
+invariant-loop-at l =
+    Stating l.tree l.initial.list l.list l.to l.at
+
+abbrev pub decreases-loop-at : goal.decreases-loop-at
+decreases-loop-at l =
+    length l.tree - l.at
