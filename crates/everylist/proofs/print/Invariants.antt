@@ -1,0 +1,20 @@
+-- `everylist::print` meets its contract: the texts at the positions are handed over one after another, up to the first position that has
+use Prim.Native.Nat.{◌-◌, ◌≤◌, ◌<◌}
+use mathlib.Core.{Path.{◌≡◌, sym}, Option.{some}}
+use native.Mathlib.Omega.{arith}
+use lib.{ListN.{length, take}, Seq.{length-take-le}}
+use borrow.Author.Rules.{rules}
+use Rattle.everylist.specs.{Steps.{Kept, kept, text_at}, Input.{none_yet, one_more}}
+use Rattle.everylist.proofs.{InputLaws.{Sofar, all-printed}, StepLaws.{stepped-room, stepped-text, stepped-done}}
+use Rattle.everylist.proofs.{Prints.{text-early}}
+use Rattle.everylist.proofs.print.Given as goal
+
+-- LEFT: 7 names for 9
+abbrev pub invariant-loop-n : goal.invariant-loop-n
+invariant-loop-n l =
+    (l.to ≤ 299593) × (length l.initial.position ≡ 2048) × Sofar (kept l.words l.initial.to l.bytes) l.to
+
+-- LEFT: 7 names for 9
+abbrev pub decreases-loop-n : goal.decreases-loop-n
+decreases-loop-n l =
+    299594 - l.to

@@ -1,0 +1,49 @@
+-- `everylist::read::read_rest` meets its contract. The invariant: what came so far is whole words, since every chunk filled the space. The
+-- measure is the number of turns that are left. Assumes nothing.
+use Prim.Native.Nat.{◌+◌, ◌*◌, ◌%◌, ◌≤◌}
+use mathlib.Core.{Path.{◌≡◌, refl, sym, ◌∙◌}, List.{[]}}
+use native.Mathlib.Omega.{arith}
+use lib.ListN.{length}
+use borrow.Author.Rules.{rules}
+use Rattle.listing.specs.Lists.{words_in}
+use Rattle.everylist.specs.{EveryList.{all_numbers}, Input.{RestRead}}
+use Rattle.everylist.proofs.{InputLaws.{rest-on}}
+use Rattle.everylist.proofs.read.read_rest.Goals as goal
+use Rattle.everylist.proofs.read.read_rest.Lts as lts
+use Rattle.everylist.proofs.read.read_rest.Tie as tie
+use Rattle.everylist.proofs.read.read_rest.Reads as reads
+
+pub loop-turns-init : goal.loop-turns-init
+unfolding words_in all_numbers
+loop-turns-init c = (c.requires, omega arith, refl, record { before = []; bytes = refl; fine = refl; room = omega arith })
+
+-- What came with the chunk that was read.
+came : (c : (lts.After-read_on tie.the-claims reads.Pre reads.Post goal.the-invariant-loop-turns goal.the-decreases-loop-turns tie.handed_clauses)) → RestRead c.read_on-next.new.rest c.read_on-next.result
+came c =
+    let at = c.loop-turns in
+    let on = c.read_on-next.ensures in
+    rest-on at.space _ at.rest c.read_on-next.result at.invariant.3 at.invariant.2 (omega (arith, on.bytes, on.few)) on
+
+pub loop-turns-preserved : goal.loop-turns-preserved
+loop-turns-preserved c =
+    let at = c.loop-turns in
+    let on = c.read_on-next.ensures in
+    let size = c.read_on-next.auto.rest ∙ at.invariant.0 in
+    let full = rw c.in-Full.is at on.full in
+    (size, omega (arith, on.bytes, full), omega (arith, on.bytes, full, at.invariant.2), came c.before.before.before.before)
+
+pub shape_of-space-in_default : goal.shape_of-space-in_default
+shape_of-space-in_default c =
+    c.read_on-next.auto.rest ∙ (c.loop-turns.invariant.0 ∙ sym c.requires)
+
+pub returns-in_default : goal.returns-in_default
+returns-in_default c =
+    came c.before.before.before.before
+
+pub shape_of-space : goal.shape_of-space
+shape_of-space c =
+    c.loop-turns.invariant.0 ∙ sym c.requires
+
+pub returns : goal.returns
+returns c =
+    c.loop-turns.invariant.3

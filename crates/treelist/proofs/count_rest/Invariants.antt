@@ -1,0 +1,19 @@
+-- `treelist::count_rest` meets its contract: the bytes of the chunks are counted. The measure is the number of turns that are left. Assumes
+use Prim.Native.Nat.{◌+◌, ◌*◌, ◌≤◌}
+use mathlib.Core.{Path.{◌≡◌, refl, sym, ◌∙◌}, List.{[]}}
+use native.Mathlib.Omega.{arith}
+use lib.ListN.{length}
+use borrow.Author.Rules.{rules}
+use Rattle.treelist.specs.Input.{RestRead}
+use Rattle.treelist.proofs.{InputLaws.{rest-on}}
+use Rattle.treelist.proofs.count_rest.Given as goal
+
+-- LEFT: 6 names for 8
+abbrev pub invariant-loop-turns : goal.invariant-loop-turns
+invariant-loop-turns l =
+    (length l.initial.turns ≡ 65536) × (l.input.bytes + 65536 * l.space ≤ 72057594037927936) × RestRead l.initial.turns l.input.last l.input.bytes
+
+-- LEFT: 6 names for 8
+abbrev pub decreases-loop-turns : goal.decreases-loop-turns
+decreases-loop-turns l =
+    l.space
