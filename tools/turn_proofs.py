@@ -94,6 +94,18 @@ def alias_parts(block, f, table, own):
         if len(said) > 1:
             steps[p[2][1]] = said
     asked = (table["pre"] or {}).get("fields") or own[0]
+    callees = {p[2][1]: p[3] for p in f.places if p[3]}
+    for m in re.finditer(r"let (%s) =\s+[\w.-]*?\.(%s)\s+in\b" % (IDENT, IDENT), block):
+        name, step = m.groups()
+        if step not in callees:
+            continue
+        said = f.clauses.get(callees[step], ([], []))[1]
+        for part in ("new", "auto"):
+            for k, n in enumerate(f.callees.get(callees[step], [])):
+                block = re.sub(r"(?<![\w'.-])%s\.%s%s\.0(?![\w-])" % (re.escape(name), part, r"\.1" * k), f"{name}.{part}.{n}", block)
+        if len(said) > 1:
+            for path, n in part_names(said):
+                block = re.sub(r"(?<![\w'.-])%s\.ensures%s(?![\w-])" % (re.escape(name), "".join(r"\." + x for x in path)), f"{name}.ensures.{n}", block)
     for m in re.finditer(r"let (%s) =\s+[\w.-]*?\.(?:(%s)\.ensures|requires)\s+in\b" % (IDENT, IDENT), block):
         names = steps.get(m.group(2)) if m.group(2) else asked
         if not names or len(names) < 2:

@@ -40,6 +40,9 @@ module _ (W X : List ℕ) (lo l m hi : ℕ) (v : Items) (high : l ≤ hi) (writt
       → FinishTo κ W X lo hi v s (At v.base v.write)
   unfolding work walk call_level call_finish return_level return_finish binary_level binary_finish statement_level statement_finish array_level
       array_finish flushed waits
+  finish-gathered _ _ s (Rattle.levels.specs.Passes.split {done = done}) g _ t e = elim g [ ]
+  finish-gathered _ _ s unary g _ t e = elim g [ ]
+  finish-gathered _ _ s (Rattle.levels.specs.Passes.conditional_pass {tokens = tokens}) g _ t e = elim g [ ]
   finish-gathered κ p s call g (GatherSide.all {d = d} b) t e = gives refl (gathered-in-order d b) (le_refl v.base) (omega arith)
   finish-gathered κ p s math_call g (GatherSide.all {d = d} b) t e = gives refl (gathered-in-order d b) (le_refl v.base) (omega arith)
   finish-gathered κ p s unsplit_pass g (StatementSide.whole {d = d} b) t e =

@@ -290,6 +290,7 @@ module _ (W : List ℕ) (base n l : ℕ) (u : ℕ → Bool) (ps : List Pass) whe
 
   fails-to : {answer : Answer} (r : Left) → Fallen r → (x : Result) → ((ms : List Message) → x ≡ fail ms → answer ≡ messages ms) → (m : ℕ)
       → Answers W (0 ∷ []) base 3 (3 * n + 3) m x r → FlatTo W base n l u ps answer r
+  fails-to {answer = answer} (Done _) d x h m v = elim d [ ]
   fails-to (Fail f) d x h m v =
       subst (λ (a : Answer). FlatTo W base n l u ps a (Fail f)) (sym (h v.messages v.is)) (told-to v.told)
   fails-to (Mismatched f) d x h m v =
@@ -307,6 +308,8 @@ module _ {W : List ℕ} {base n : ℕ} {used : OpSet} where
           → EndsTo W l (if_run (runs (used_by used) last_token) (ends_with_semicolon l) (leaves g.tokens)) (leaves g.tokens) r
           → FlatTo W base n l (used_by used) ps (grouped l (used_by used)
           (last_token ∷ member_accessors ∷ sectioning ∷ ps) [] (leaves g.tokens)) r
+      go g l ps (Mismatched _) d v = elim v [ ]
+      go g l ps (Unclosing _) d v = elim v [ ]
       go g l ps (Done m) d v = absurd d
       go g l ps (Fail q) d (unended {ms = ms} e s) =
           subst (λ (a : Answer). StandsFor W (3 * n + 3) n l (Failed q) a)

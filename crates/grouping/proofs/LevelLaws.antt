@@ -7,6 +7,7 @@ use lib.{IntN.{ℤ}, ListN.{length, drop}}
 use Rattle.molang.{specs.Forest.{Forest, leaves}, specs.Order.{Rules, Pass, order, last_token, member_accessors, sectioning}}
 use Rattle.molang.{specs.Read.{Answer, grouped}, specs.Weight.{weight, node_weight}, specs.Work.{pass}, proofs.Bounds.{size-weight}}
 use Rattle.ops.specs.declared.sets.OpSet.{OpSet}
+use Rattle.nodes.specs.Children.{Given}
 use Rattle.nodes.{specs.Children.{CanGive}, proofs.Trees.{array-give}}
 use Rattle.levels.specs.{Turns.{lent_of}, declared.failure.Failure.{Failure}, declared.turns.Pass.{Pass as State}}
 use Rattle.grouping.specs.{Grouped.{tells, StandsFor, roots, failed, pointer_failed}, declared.grouped.Grouped.{Grouped}}
@@ -175,7 +176,7 @@ module _ {W W1 : List ℕ} {base n : ℕ} {used : OpSet} where
         let f = left g 0 [] in
         array-give f.array (omega arith) (omega (arith, g.based)) (omega (arith, g.based, g.room, f.fewer, w.long))
 
-    module _ {W2 : List ℕ} where
+    module _ {W2 : List ℕ} (given : Given W1 0 base m W2) where
       -- what is left stands under slot 0, whatever the passes after it
       levels-on : (g : CanGroup W base n) (l : ℕ) (ps : List Pass) → CanLevel W2 base m
       levels-on g l ps =

@@ -132,6 +132,9 @@ module _ (W W' X : List ℕ) (lo l m hi item : ℕ) (v : Items) (k : Token) (kid
       → UnreadSide κ W X lo l m hi v rest → Agrees κ v t rest → InFrame v p
       → v.base + v.len ≤ length W' → Holds κ W' X lo hi (walk_of now' p) (takes κ t k kids) rest
   unfolding takes call_level call_resume return_level return_resume statement_level statement_resume conditional_level
+  put_holds _ _ t (Rattle.levels.specs.Passes.array {array = array} {lent = lent}) keeping d u a f w = elim keeping [ ]
+  put_holds _ _ t unary keeping d u a f w = elim keeping [ ]
+  put_holds _ _ t (Rattle.levels.specs.Passes.level {ops = ops} {classes = classes} {pending = pending} _) keeping d u a f w = elim keeping [ ]
   put_holds κ p t call keeping d u a f w =
       assemble κ p (call_resume t k kids) call (put-gather d (λ s. call_resume s k kids) (λ d. refl)) (still u f) tt (omega arith) w
   put_holds κ p t math_call keeping d u a f w =
@@ -147,6 +150,9 @@ module _ (W W' X : List ℕ) (lo l m hi item : ℕ) (v : Items) (k : Token) (kid
 
 -- a pass that keeps the item as it is
 keep-frame : (v : Items) (p : Pass) → Keeping p → InFrame v p → v.write < v.read
+keep-frame v (Arrays _ _) keeping f = elim keeping [ ]
+keep-frame v Unary keeping f = elim keeping [ ]
+keep-frame v (Binary _ _) keeping f = elim keeping [ ]
 keep-frame v Calls keeping f = f
 keep-frame v MathCalls keeping f = f
 keep-frame v Unsplit keeping f = f

@@ -50,8 +50,8 @@ returns-then-closer_of-operator_of c =
       section_closed = record {
         answer = λ g.
             close-differs g.standing c.requires.1 g.tree c.opener_at-innermost.result _ _ c.args.at.index
-            c.still_Open.result c.opener_at-innermost.ensures (looked-for c.before.before.before.before) c.operator_of-2.ensures
-            c.if-closer_of-operator_of.true c.still_Open.ensures;
+            c.still_open-named.result c.opener_at-innermost.ensures (looked-for c.before.before.before.before) c.operator_of-2.ensures
+            c.if-closer_of-operator_of.true c.still_open-named.ensures;
         same = λ g j f. refl;
         long = refl;
       };
@@ -60,7 +60,7 @@ returns-then-closer_of-operator_of c =
 
 -- where the opener was found, from where its closer is known to match
 abbrev found : (lts.Else1 tie.the-claims reads.Pre reads.Post tie.handed_clauses) → (lts.After-opener_at tie.the-claims reads.Pre reads.Post tie.handed_clauses)
-found c = c.before.before.before.before.before.before.before
+found c = c.before.before.before.before.before
 
 -- the opener's slot lies within the words that have its children
 opener-in : (c : (lts.After-give_children tie.the-claims reads.Pre reads.Post tie.handed_clauses)) → let o = found c.before.before.before in let a = o.args in
@@ -75,12 +75,11 @@ set_close-requires c =
 pub returns : goal.returns
 returns c =
     let set = c.set_close in
-    let o = found c.before.before.before.before.before.before.before.before.before in
-    let s = o.before.before.before.before in
+    let o = found c.before.before.before.before.before.before.before.before.before.before in
     record {
-      section_closed = close-closed s.pre.1 o.opener_at-innermost.result _ _ s.args.at.index c.give_children.new.work set.new.0
-          o.opener_at-innermost.ensures (looked-for c.before.before.before.before.before.before.before.before.before.before.before) c.operator_of-2.ensures c.if-closer_of-operator_of.false
-          c.give_children.ensures set.ensures (opener-in c.before.before.before.before.before.before);
+      section_closed = close-closed c.requires.1 o.opener_at-innermost.result _ _ c.args.at.index c.give_children.new.work set.new.work
+          o.opener_at-innermost.ensures (looked-for c.before.before.before.before.before.before.before.before.before.before.before.before) c.operator_of-2.ensures c.if-closer_of-operator_of.false
+          c.give_children.ensures set.ensures (opener-in c.before.before.before.before.before.before.before);
       result_value = refl;
     }
 

@@ -61,13 +61,13 @@ pub returns-then-is_opener : goal.returns-then-is_opener
 returns-then-is_opener c =
     let e = c.position-index in
     let o = op_at c.args.work.now c.args.item in
-    let h : is_opener o ≡ true = opening c.before.before.before.before.before ∙ c.if-is_opener.true in
+    let h : is_opener o ≡ true = opening c.before.before.before.before.before.before ∙ c.if-is_opener.true in
     let r = c.open_section in
-    let parts = looked-on c.requires.0 c.args.at.index e.result r.result r.new.0 e.ensures.0 e.ensures.1
-    (λ g. look-opens g o e.result r.result r.new.0 refl h r.ensures.words r.ensures.more
+    let parts = looked-on c.requires.0 c.args.at.index e.result r.result r.new.work e.ensures.0 e.ensures.1
+    (λ g. look-opens g o e.result r.result r.new.work refl h r.ensures.words r.ensures.more
     r.ensures.deeper r.ensures.at)
-    (opens-same c.args.work.now r.new.0 c.args.base c.args.marks c.args.at.write c.args.at.depth c.args.item
-    e.result r.ensures.words) r.auto.0 in
+    (opens-same c.args.work.now r.new.work c.args.base c.args.marks c.args.at.write c.args.at.depth c.args.item
+    e.result r.ensures.words) r.auto.work in
     record { looked = parts.0; result_value = parts.1 }
 
 pub close_section-requires : goal.close_section-requires
@@ -78,20 +78,20 @@ pub returns-then-depth-ne0 : goal.returns-then-depth-ne0
 returns-then-depth-ne0 c =
     let e = c.position-index in
     let o = op_at c.args.work.now c.args.item in
-    let h : is_opener o ≡ false = opening c.before.before.before.before.before.before.before.before ∙ c.if-is_opener.false in
-    let closes : is_closer o ≡ true = closing c.before.before.before.before.before.before ∙ c.if-is_closer.true in
+    let h : is_opener o ≡ false = opening c.before.before.before.before.before.before.before.before.before ∙ c.if-is_opener.false in
+    let closes : is_closer o ≡ true = closing c.before.before.before.before.before.before.before ∙ c.if-is_closer.true in
     let r = c.close_section in
-    let w = r.ensures.0 in
+    let w = r.ensures.section_closed in
     let fewer = closer-open c.args.at.depth o h closes in
     record {
       looked = record {
         answer = λ g.
-            look-position g c.args.at.index e.result r.result r.new.0 e.ensures.0 e.ensures.1
-            (look-closes g o e.result r.result r.new.0 refl h closes w);
+            look-position g c.args.at.index e.result r.result r.new.work e.ensures.0 e.ensures.1
+            (look-closes g o e.result r.result r.new.work refl h closes w);
         same = λ g j f x y. w.same g j f;
         long = w.long;
       };
-      result_value = r.ensures.1 ∙ sym fewer;
+      result_value = r.ensures.result_value ∙ sym fewer;
     }
 
 pub returns : goal.returns
@@ -100,7 +100,7 @@ returns c =
     let o = op_at c.args.work.now c.args.item in
     let h : is_opener o ≡ false = opening c.before.before.before ∙ c.if-is_opener.false in
     let other : (is_closer o ≡ false) ⊎ (c.args.at.depth ≡ 0) =
-    ⊎_elim (λ w. inr w.1.left) (λ w. inl (closing c.before ∙ w.left)) c.if-is_closer.branch
+    elim c.if-is_closer.branch [ lts.then-is_closer+else-depth-ne0 w ↦ inr w.if-depth-ne0.false | lts.else-is_closer w ↦ inl (closing c.before ∙ w.if-is_closer.false) ]
     in
     let parts = looked-on c.requires.0 c.args.at.index e.result _ _ e.ensures.0 e.ensures.1
     (λ g. look-places g e.result _ refl (look-other g o e.result refl h other))

@@ -17,9 +17,9 @@ returns-then-takes_member c =
     let a = c.attach in
     let h : has_members o.result ≡ true = sym test.ensures ∙ c.if-takes_member.true in
     record {
-      joined = λ g. (member-under g o.result a.new.0 _ o.ensures h a.ensures refl).0;
+      joined = λ g. (member-under g o.result a.new.work _ o.ensures h a.ensures refl).0;
       more = omega arith;
-      kept = λ g. (member-under g o.result a.new.0 _ o.ensures h a.ensures refl).1;
+      kept = λ g. (member-under g o.result a.new.work _ o.ensures h a.ensures refl).1;
       long = simp length-set a.ensures.long;
     }
 

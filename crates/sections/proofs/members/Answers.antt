@@ -60,7 +60,7 @@ loop-read-preserved-then-operator_bits_of-eq-MEMBER_ACCESSOR c =
     let m = c.member-write in
     let accessor = from_bits _ 45 (omega arith) (sym c.operator_bits_of.ensures ∙ c.if-operator_bits_of-eq-MEMBER_ACCESSOR.true) in (
       v.0,
-      λ g. join-member (turn c.before.before.before.before.before.before.before.before g) accessor c.if-write-eq0.false m.result m.new.0 m.ensures,
+      λ g. join-member (turn c.before.before.before.before.before.before.before.before.before g) accessor c.if-write-eq0.false m.result m.new.work m.ensures,
     )
 
 pub loop-read-preserved : goal.loop-read-preserved

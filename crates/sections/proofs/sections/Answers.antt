@@ -42,8 +42,7 @@ walked : {W₀ : List ℕ} (c : (lts.After-struct_known tie.the-claims reads.Pre
     after.depth after.index
 walked c g v =
     let r = c.look-looked in
-    let given = c.looked.given in
-    walk-on (turn c.before.before.before.before.before.before.before g v) r.result given.0.0 r.new.0 r.ensures.0 given.1
+    walk-on (turn c.before.before.before.before.before.before.before g v) r.result c.in-On.after r.new.work r.ensures.looked c.in-On.is
 
 pub look-looked-requires : goal.look-looked-requires
 look-looked-requires c =
@@ -59,7 +58,7 @@ tokens-smaller c =
 
 pub tokens-preserved : goal.tokens-preserved
 tokens-preserved c =
-    (c.tokens.invariant.0, c.if-at-eq0.true, λ g. walked c.before g (now-at c.before.before.before.before.before.before.before.before g))
+    (c.tokens.invariant.0, c.if-at-eq0.true, λ g. walked c.before.before g (now-at c.before.before.before.before.before.before.before.before.before g))
 
 pub still_open-requires : goal.still_open-requires
 still_open-requires c =
@@ -74,7 +73,7 @@ open-smaller c =
 pub open-preserved : goal.open-preserved
 open-preserved c =
     let h = c.open.invariant in
-    (omega (arith, h.0), c.if-n-read-2.false, λ W₀ g v. walked c.before.before g (h.2 W₀ g v))
+    (omega (arith, h.0), c.if-n-read-2.false, λ W₀ g v. walked c.before.before.before g (h.2 W₀ g v))
 
 pub returns-then-n-read : goal.returns-then-n-read
 returns-then-n-read c =
@@ -99,7 +98,7 @@ returns-then-n-read-2 c =
     (record {
       answer = λ g.
           let w = walked c.before.before.before g (now-at c.before.before.before.before.before.before.before.before.before.before g) in
-          walk-unclosed w.0 w.1 w.2 c.if-n-read-2.true c.if-at-eq0.false c.still_Open.result c.still_Open.ensures;
+          walk-unclosed w.0 w.1 w.2 c.if-n-read-2.true c.if-at-eq0.false c.still_open.result c.still_open.ensures;
       kept = λ g. (walked c.before.before.before g (now-at c.before.before.before.before.before.before.before.before.before.before g)).2.kept;
       long = (walked c.before.before.before pre (now-at c.before.before.before.before.before.before.before.before.before.before pre)).2.long;
     }) in
@@ -108,20 +107,19 @@ returns-then-n-read-2 c =
 pub shape_of-work-in-Differs : goal.shape_of-work-in-Differs
 shape_of-work-in-Differs c =
     let g = c.requires in
-    c.look-looked.ensures.looked.long ∙ (now-at c.before.before.before.before.before.before g).2.long
+    c.look-looked.ensures.looked.long ∙ (now-at c.before.before.before.before.before.before.before g).2.long
 
 pub returns-in-Differs : goal.returns-in-Differs
 returns-in-Differs c =
     let pre = c.requires in
     let r = c.look-looked in
-    let given = c.looked2.given in
     let parts = loses-nothing
     (record {
       answer = λ g.
-          (walk-differs (turn c.before.before.before.before.before.before g (now-at c.before.before.before.before.before.before g)) r.result given.0.0 given.0.1.0 r.new.0 r.ensures.0 given.1).0;
+          (walk-differs (turn c.before.before.before.before.before.before.before g (now-at c.before.before.before.before.before.before.before g)) r.result c.in-Differs.mismatch c.in-Differs.field-1 r.new.work r.ensures.looked c.in-Differs.is).0;
       kept = λ g.
-          (walk-differs (turn c.before.before.before.before.before.before g (now-at c.before.before.before.before.before.before g)) r.result given.0.0 given.0.1.0 r.new.0 r.ensures.0 given.1).1;
-      long = r.ensures.0.long ∙ (now-at c.before.before.before.before.before.before pre).2.long;
+          (walk-differs (turn c.before.before.before.before.before.before.before g (now-at c.before.before.before.before.before.before.before g)) r.result c.in-Differs.mismatch c.in-Differs.field-1 r.new.work r.ensures.looked c.in-Differs.is).1;
+      long = r.ensures.looked.long ∙ (now-at c.before.before.before.before.before.before.before pre).2.long;
     }) in
     record { sectioned = parts.0; loses_nothing = parts.1 }
 
@@ -147,11 +145,11 @@ offset_bounds-work-base c =
 
 pub bounds-work-base : goal.bounds-work-base
 bounds-work-base c =
-    inside c.before
+    inside c.before.before
 
 pub overflow_add-read : goal.overflow_add-read
 overflow_add-read c =
-    omega (arith, inside c.before)
+    omega (arith, inside c.before.before)
 
 pub shape_of-work-then-n-read : goal.shape_of-work-then-n-read
 shape_of-work-then-n-read c =

@@ -8,10 +8,6 @@ use Rattle.stackorder.proofs.fill.Lts as lts
 use Rattle.stackorder.proofs.fill.Tie as tie
 use Rattle.stackorder.proofs.fill.Reads as reads
 
--- The call is not turned back.
-no-refusal : (c : (lts.After-enum_told tie.the-claims reads.Pre reads.Post)) → refusal_in c.args.refusal ≡ none
-no-refusal c = ap refusal_in c.in_default.is
-
 pub returns-in-Told : goal.returns-in-Told
 returns-in-Told c =
     let a = c.args in
@@ -21,10 +17,10 @@ returns-in-Told c =
 pub returns : goal.returns
 returns c =
     let a = c.args in
-    let none = no-refusal c.before.before.before.before in
+    let none = ap refusal_in c.in_default.is in
     put-in-order a.direction a.words.now a.output.now (refusal_in a.refusal) none (c.requires none)
     c.reorder.new.output c.reorder.ensures
 
 pub reorder-requires : goal.reorder-requires
 reorder-requires c =
-    c.requires (no-refusal c.before)
+    c.requires (ap refusal_in c.in_default.is)

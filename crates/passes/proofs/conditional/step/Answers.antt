@@ -66,11 +66,11 @@ returns c =
 
 pub overflow_add-item : goal.overflow_add-item
 overflow_add-item c =
-    let b = bounds c in omega arith
+    let b = bounds c.before in omega arith
 
 pub offset_bounds-work-base : goal.offset_bounds-work-base
 offset_bounds-work-base c =
-    let b = bounds c in omega arith
+    let b = bounds c.before in omega arith
 
 pub bounds-work-base : goal.bounds-work-base
 bounds-work-base c =

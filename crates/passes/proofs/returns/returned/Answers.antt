@@ -19,7 +19,7 @@ returns c =
     let attach = c.attach in
     let past = c.past-after in
     let keep = c.keep in
-    returned-turn keep.new.0 c.args.list c.args.item _ refl (next-room c.requires left).0 attach.ensures
+    returned-turn keep.new.work c.args.list c.args.item _ refl (next-room c.requires left).0 attach.ensures
     (rw past.ensures at keep.ensures.1)
     past.result keep.result c.on.result past.ensures keep.ensures.0 c.on.ensures
 

@@ -1,0 +1,17 @@
+-- `run`: the loop over the driver's turns. Its invariant: what is left to be done has the whole pass's result, and takes fewer turns than
+use mathlib.Core.Path.{◌≡◌, refl, ◌∙◌}
+use native.Mathlib.Omega.{arith}
+use borrow.Author.Rules.{rules}
+use lib.ListN.{length}
+use Rattle.grouping.specs.Driver.{Opened}
+use Rattle.grouping.proofs.RunLaws.{Running, run-can-begin, run-opened, run_holds, running-advances, run-again, ran-done, ran-failed}
+use Rattle.grouping.proofs.{RunLaws.{run-never}}
+use Rattle.grouping.proofs.driver.run.Given as goal
+
+abbrev pub invariant-loop-fuel : goal.invariant-loop-fuel
+invariant-loop-fuel l =
+    Running l.initial.work l.initial.walk l.base (length l.initial.work) l.work l.walk l.fuel × (l.initial.fuel ≡ length l.initial.work)
+
+abbrev pub decreases-loop-fuel : goal.decreases-loop-fuel
+decreases-loop-fuel l =
+    l.fuel

@@ -1,0 +1,23 @@
+-- `group::levels` meets its contract.
+use Prim.Native.Nat.{ℕ, ◌-◌, ◌≤◌}
+use mathlib.Core.Path.{◌≡◌, refl, ◌∙◌}
+use native.Mathlib.Omega.{arith}
+use mir.{Facts.{to_z-of_z}, Syntax.{w16}, Val.{to_z, of_z}}
+use borrow.Author.Rules.{rules}
+use lib.ListN.{length}
+use Rattle.order.specs.Ranks.{used_by, rules_at, later, Ranked}
+use Rattle.grouping.specs.Group.{CanLevel}
+use Rattle.grouping.proofs.LevelLaws.{LevelAt, level-start, level-chooses, chosen-as, levelled-at, level-on, level-pointer}
+use Rattle.grouping.proofs.{LevelLaws.{level-fails, level-roots}}
+use Rattle.grouping.proofs.group.levels.Given as goal
+
+abbrev pub invariant-loop-k : goal.invariant-loop-k
+invariant-loop-k l =
+    CanLevel l.initial.work l.base l.m
+    × ((g : CanLevel l.initial.work l.base l.m) (j : ℕ) → LevelAt l.initial.work l.base l.m (used_by l.used) (rules_at l.version) g j l.work l.k l.n) × (l.k ≤ 23)
+    × (length l.work ≡ length l.initial.work)
+    × Ranked (later (rules_at l.version)) l.table
+
+abbrev pub decreases-loop-k : goal.decreases-loop-k
+decreases-loop-k l =
+    23 - l.k
