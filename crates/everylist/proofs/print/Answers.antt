@@ -23,7 +23,7 @@ laid : (c : (lts.After-known_told tie.the-claims reads.Pre reads.Post goal.the-i
     × (c.loop-n.position < 299593)
     × (text_at (held c.before.before.before.before) c.loop-n.position
     ≡ some (take c.in-Text.n c.step_at-stepped.new.out))
-laid c =
+laid g c =
     let step = c.step_at-stepped in
     let text = text_at (held at) c.loop-n.position in
     let told = c.stepped.given in
@@ -34,12 +34,12 @@ laid c =
     )
 
 pub returns-in_default : goal.returns-in_default
-returns-in_default c =
+returns-in_default g c =
     all-printed (held at) c.loop-n.position c.loop-n.invariant.2
     (stepped-done _ c.loop-n.out c.step_at-stepped.new.out c.step_at-stepped.result c.in_default.is c.step_at-stepped.ensures)
 
 pub loop-n-preserved : goal.loop-n-preserved
-loop-n-preserved c =
+loop-n-preserved g c =
     let so_far = c.loop-n.invariant.2 in (
       omega (arith, (laid c.before.before.before.before.before).1),
       search rules,
@@ -47,25 +47,25 @@ loop-n-preserved c =
     )
 
 pub loop-n-init : goal.loop-n-init
-loop-n-init c =
+loop-n-init g c =
     (omega arith, search rules, record { text = _; steps = none_yet })
 
 pub slice_bounds-out-end : goal.slice_bounds-out-end
-slice_bounds-out-end c =
+slice_bounds-out-end g c =
     (laid c.before.before).0
 
 pub slice_bounds-hand-end : goal.slice_bounds-hand-end
-slice_bounds-hand-end c =
+slice_bounds-hand-end g c =
     sym (length-take-le _ _ (laid c.before.before.before).0)
 
 pub hand-requires : goal.hand-requires
-hand-requires c =
+hand-requires g c =
     (laid c.before.before.before).2
 
 pub overflow_add-position : goal.overflow_add-position
-overflow_add-position c =
+overflow_add-position g c =
     omega (arith, (laid c.before.before.before.before.before).1)
 
 pub loop-n-smaller : goal.loop-n-smaller
-loop-n-smaller c =
+loop-n-smaller g c =
     omega (arith, (laid c.before.before.before.before.before).1)

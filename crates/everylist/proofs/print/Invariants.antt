@@ -11,10 +11,10 @@ use Rattle.everylist.proofs.print.Given as goal
 
 -- LEFT: 7 names for 9
 abbrev pub invariant-loop-n : goal.invariant-loop-n
-invariant-loop-n l =
+invariant-loop-n g l =
     (l.to ≤ 299593) × (length l.initial.position ≡ 2048) × Sofar (kept l.words l.initial.to l.bytes) l.to
 
 -- LEFT: 7 names for 9
 abbrev pub decreases-loop-n : goal.decreases-loop-n
-decreases-loop-n l =
+decreases-loop-n g l =
     299594 - l.to

@@ -6,7 +6,7 @@ use Rattle.liftcount.proofs.{Stands.{came-prints}}
 use Rattle.liftcount.proofs.answer.Goals as goal
 
 pub hand-requires : goal.hand-requires
-hand-requires c =
+hand-requires g c =
     let laid = c.finish-n.ensures.wrote in
     let came = c.requires.1 in
     record { input = came.input; is = wrote-front laid ∙ came-prints _ came }

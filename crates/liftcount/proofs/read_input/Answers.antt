@@ -20,7 +20,7 @@ pub record Sofar (list : List ℕ) (turns : ℕ) (s : State) : Type 0 where
 
 pub loop-turns-init : goal.loop-turns-init
 unfolding fed
-loop-turns-init c =
+loop-turns-init g c =
     let list = c.args.list.now in
     (c.requires.0, c.requires.1, record { came = []; few = omega arith; is = c.start-run.ensures list })
 
@@ -29,7 +29,7 @@ on : (c : (lts.After-read_on tie.the-claims reads.Pre reads.Post goal.the-invari
     → state_of c.read_on-next.result.run c.read_on-next.new.run
     ≡ fed (started c.args.list.now)
     (c.loop-turns.invariant.2.came ++ take c.read_on-next.result.last c.read_on-next.new.list)
-on c =
+on g c =
     let so_far = c.loop-turns.invariant.2 in
     let chunk = take c.read_on-next.result.last c.read_on-next.new.list in
     c.read_on-next.ensures.list_after
@@ -40,7 +40,7 @@ on c =
 longer : (c : (lts.After-read_on tie.the-claims reads.Pre reads.Post goal.the-invariant-loop-turns goal.the-decreases-loop-turns tie.handed_clauses))
     → length (c.loop-turns.invariant.2.came ++ take c.read_on-next.result.last c.read_on-next.new.list)
     ≤ length c.loop-turns.invariant.2.came + 65536
-longer c =
+longer g c =
     let at = c.loop-turns in
     let chunk = take c.read_on-next.result.last c.read_on-next.new.list in
     omega (
@@ -53,12 +53,12 @@ longer c =
     )
 
 pub returns-in_default : goal.returns-in_default
-returns-in_default c =
+returns-in_default g c =
     let so_far = c.loop-turns.invariant.2 in
     record { before = so_far.came; few = omega (arith, longer c.before.before.before.before.before.before, so_far.few); is = on c.before.before.before.before.before.before }
 
 pub loop-turns-preserved : goal.loop-turns-preserved
-loop-turns-preserved c =
+loop-turns-preserved g c =
     let at = c.loop-turns in
     let chunk = take c.read_on-next.result.last c.read_on-next.new.list in
     let back = c.read_on-next.auto.1 in (
@@ -68,7 +68,7 @@ loop-turns-preserved c =
     )
 
 pub returns : goal.returns
-returns c =
+returns g c =
     let so_far = c.loop-turns.invariant.2 in
     record {
       before = so_far.came;
@@ -77,17 +77,17 @@ returns c =
     }
 
 pub shape_of-list-in_default : goal.shape_of-list-in_default
-shape_of-list-in_default c =
+shape_of-list-in_default g c =
     c.read_on-next.auto.run ∙ (c.loop-turns.invariant.0 ∙ sym c.requires.0)
 
 pub shape_of-space-in_default : goal.shape_of-space-in_default
-shape_of-space-in_default c =
+shape_of-space-in_default g c =
     c.read_on-next.auto.list ∙ (c.loop-turns.invariant.1 ∙ sym c.requires.1)
 
 pub shape_of-list : goal.shape_of-list
-shape_of-list c =
+shape_of-list g c =
     c.loop-turns.invariant.0 ∙ sym c.requires.0
 
 pub shape_of-space : goal.shape_of-space
-shape_of-space c =
+shape_of-space g c =
     c.loop-turns.invariant.1 ∙ sym c.requires.1

@@ -10,10 +10,10 @@ use Rattle.liftcount.proofs.read_input.Given as goal
 
 -- LEFT: 8 names for 10
 abbrev pub invariant-loop-turns : goal.invariant-loop-turns
-invariant-loop-turns l =
+invariant-loop-turns g l =
     (length l.initial.turns ≡ 640) × (length l.input ≡ 65536) × Sofar l.initial.input l.space (state_of l.list l.initial.turns)
 
 -- LEFT: 8 names for 10
 abbrev pub decreases-loop-turns : goal.decreases-loop-turns
-decreases-loop-turns l =
+decreases-loop-turns g l =
     l.space

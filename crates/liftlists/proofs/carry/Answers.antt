@@ -34,7 +34,7 @@ after : (c : (lts.After-read_on tie.the-claims reads.Pre reads.Post goal.the-inv
     → let l = c.read_on-next.new in
     Lengths l.1.0 l.1.1.0 l.1.1.1.1.0 l.1.1.1.1.1.1.0 l.1.1.1.1.1.1.1.0 l.1.1.1.1.1.1.1.1.0
     l.1.1.1.1.1.1.1.1.1.0
-after c =
+after g c =
     let k = c.read_on-next.auto in
     let back = k.1.1.1.1.1.1 in
     let inv = c.loop-turns.invariant in
@@ -53,10 +53,10 @@ onward : (c : (lts.After-fed tie.the-claims reads.Pre reads.Post goal.the-invari
     × FileGoes (yet c.args.to (held_in c.loop-turns.stage c.loop-turns.list) c.loop-turns.out c.loop-turns.at)
     (take c.read_on-next.result.whole l.1.1.0)
     (yet c.args.to (held_in c.in-On.then l.1.0) l.1.1.1.1.0 c.in-On.laid)
-onward c = rw c.in-On.is at c.read_on-next.ensures.fed_to
+onward g c = rw c.in-On.is at c.read_on-next.ensures.fed_to
 
 pub loop-turns-init : goal.loop-turns-init
-loop-turns-init c =
+loop-turns-init g c =
     let p = c.requires in
     record {
       lists = p.list_len.0;
@@ -69,42 +69,42 @@ loop-turns-init c =
     }
 
 pub read_on-next-requires : goal.read_on-next-requires
-read_on-next-requires c =
+read_on-next-requires g c =
     let inv = c.loop-turns.invariant in
     record { list_len = (inv.lists, inv.spaces, c.requires.list_len.3, inv.laid, inv.outs); lift_scratch = inv.scratch; fine = (inv.fine, inv.reached) }
 
 pub shape_of-list-in_default : goal.shape_of-list-in_default
-shape_of-list-in_default c = (after c.before.before.before.before.before.before.before.before.before.before.before.before.before.before.before.before.before).lists ∙ sym c.requires.list_len.0
+shape_of-list-in_default g c = (after c.before.before.before.before.before.before.before.before.before.before.before.before.before.before.before.before.before).lists ∙ sym c.requires.list_len.0
 
 pub shape_of-space-in_default : goal.shape_of-space-in_default
-shape_of-space-in_default c = (after c.before.before.before.before.before.before.before.before.before.before.before.before.before.before.before.before.before).spaces ∙ sym c.requires.list_len.1
+shape_of-space-in_default g c = (after c.before.before.before.before.before.before.before.before.before.before.before.before.before.before.before.before.before).spaces ∙ sym c.requires.list_len.1
 
 pub shape_of-out-in_default : goal.shape_of-out-in_default
-shape_of-out-in_default c = (after c.before.before.before.before.before.before.before.before.before.before.before.before.before.before.before.before.before).outs ∙ sym c.requires.list_len.2
+shape_of-out-in_default g c = (after c.before.before.before.before.before.before.before.before.before.before.before.before.before.before.before.before.before).outs ∙ sym c.requires.list_len.2
 
 pub shape_of-tree-in_default : goal.shape_of-tree-in_default
-shape_of-tree-in_default c = (after c.before.before.before.before.before.before.before.before.before.before.before.before.before.before.before.before.before).scratch.first_tree ∙ sym c.requires.lift_scratch.first_tree
+shape_of-tree-in_default g c = (after c.before.before.before.before.before.before.before.before.before.before.before.before.before.before.before.before.before).scratch.first_tree ∙ sym c.requires.lift_scratch.first_tree
 
 pub shape_of-again-in_default : goal.shape_of-again-in_default
-shape_of-again-in_default c = (after c.before.before.before.before.before.before.before.before.before.before.before.before.before.before.before.before.before).scratch.second_tree ∙ sym c.requires.lift_scratch.second_tree
+shape_of-again-in_default g c = (after c.before.before.before.before.before.before.before.before.before.before.before.before.before.before.before.before.before).scratch.second_tree ∙ sym c.requires.lift_scratch.second_tree
 
 pub shape_of-work-in_default : goal.shape_of-work-in_default
-shape_of-work-in_default c = (after c.before.before.before.before.before.before.before.before.before.before.before.before.before.before.before.before.before).scratch.work_words ∙ sym c.requires.lift_scratch.work_words
+shape_of-work-in_default g c = (after c.before.before.before.before.before.before.before.before.before.before.before.before.before.before.before.before.before).scratch.work_words ∙ sym c.requires.lift_scratch.work_words
 
 pub shape_of-output-in_default : goal.shape_of-output-in_default
-shape_of-output-in_default c = (after c.before.before.before.before.before.before.before.before.before.before.before.before.before.before.before.before.before).scratch.output_words ∙ sym c.requires.lift_scratch.output_words
+shape_of-output-in_default g c = (after c.before.before.before.before.before.before.before.before.before.before.before.before.before.before.before.before.before).scratch.output_words ∙ sym c.requires.lift_scratch.output_words
 
 pub slice_bounds-finish-count : goal.slice_bounds-finish-count
-slice_bounds-finish-count c = c.read_on-next.ensures.whole
+slice_bounds-finish-count g c = c.read_on-next.ensures.whole
 
 pub slice_bounds-finish-start : goal.slice_bounds-finish-start
-slice_bounds-finish-start c = omega (arith, c.read_on-next.ensures.whole, c.read_on-next.ensures.room)
+slice_bounds-finish-start g c = omega (arith, c.read_on-next.ensures.whole, c.read_on-next.ensures.room)
 
 pub slice_bounds-finish-end : goal.slice_bounds-finish-end
-slice_bounds-finish-end c = omega (arith, c.read_on-next.ensures.whole, c.read_on-next.ensures.room)
+slice_bounds-finish-end g c = omega (arith, c.read_on-next.ensures.whole, c.read_on-next.ensures.room)
 
 pub finish-requires : goal.finish-requires
-finish-requires c =
+finish-requires g c =
     let next = after c.before.before.before.before.before.before.before.before.before.before.before.before.before.before.before.before.before.before.before.before.before.before.before in
     let r = c.read_on-next.result in
     record { list_len = (
@@ -116,31 +116,31 @@ finish-requires c =
       ); lift_scratch = next.scratch; fine = ((onward c.before.before.before.before.before.before.before.before.before.before).0, reached_then c.loop-turns.invariant.reached (onward c.before.before.before.before.before.before.before.before.before.before).2) }
 
 pub shape_of-list-in_default-end : goal.shape_of-list-in_default-end
-shape_of-list-in_default-end c = (after c.before.before.before.before.before.before.before.before.before.before.before.before.before.before.before.before.before.before.before.before.before.before.before.before.before.before.before.before.before.before.before.before.before.before).lists ∙ sym c.requires.list_len.0
+shape_of-list-in_default-end g c = (after c.before.before.before.before.before.before.before.before.before.before.before.before.before.before.before.before.before.before.before.before.before.before.before.before.before.before.before.before.before.before.before.before.before.before).lists ∙ sym c.requires.list_len.0
 
 pub shape_of-space-in_default-end : goal.shape_of-space-in_default-end
-shape_of-space-in_default-end c = (after c.before.before.before.before.before.before.before.before.before.before.before.before.before.before.before.before.before.before.before.before.before.before.before.before.before.before.before.before.before.before.before.before.before.before).spaces ∙ sym c.requires.list_len.1
+shape_of-space-in_default-end g c = (after c.before.before.before.before.before.before.before.before.before.before.before.before.before.before.before.before.before.before.before.before.before.before.before.before.before.before.before.before.before.before.before.before.before.before).spaces ∙ sym c.requires.list_len.1
 
 pub shape_of-out-in_default-end : goal.shape_of-out-in_default-end
-shape_of-out-in_default-end c = c.finish.auto.out ∙ (after c.before.before.before.before.before.before.before.before.before.before.before.before.before.before.before.before.before.before.before.before.before.before.before.before.before.before.before.before.before.before.before.before.before.before).outs ∙ sym c.requires.list_len.2
+shape_of-out-in_default-end g c = c.finish.auto.out ∙ (after c.before.before.before.before.before.before.before.before.before.before.before.before.before.before.before.before.before.before.before.before.before.before.before.before.before.before.before.before.before.before.before.before.before.before).outs ∙ sym c.requires.list_len.2
 
 pub shape_of-tree-in_default-end : goal.shape_of-tree-in_default-end
-shape_of-tree-in_default-end c = c.finish.auto.again ∙ (after c.before.before.before.before.before.before.before.before.before.before.before.before.before.before.before.before.before.before.before.before.before.before.before.before.before.before.before.before.before.before.before.before.before.before).scratch.first_tree ∙ sym c.requires.lift_scratch.first_tree
+shape_of-tree-in_default-end g c = c.finish.auto.again ∙ (after c.before.before.before.before.before.before.before.before.before.before.before.before.before.before.before.before.before.before.before.before.before.before.before.before.before.before.before.before.before.before.before.before.before.before).scratch.first_tree ∙ sym c.requires.lift_scratch.first_tree
 
 pub shape_of-again-in_default-end : goal.shape_of-again-in_default-end
-shape_of-again-in_default-end c = c.finish.auto.work ∙ (after c.before.before.before.before.before.before.before.before.before.before.before.before.before.before.before.before.before.before.before.before.before.before.before.before.before.before.before.before.before.before.before.before.before.before).scratch.second_tree ∙ sym c.requires.lift_scratch.second_tree
+shape_of-again-in_default-end g c = c.finish.auto.work ∙ (after c.before.before.before.before.before.before.before.before.before.before.before.before.before.before.before.before.before.before.before.before.before.before.before.before.before.before.before.before.before.before.before.before.before.before).scratch.second_tree ∙ sym c.requires.lift_scratch.second_tree
 
 pub shape_of-work-in_default-end : goal.shape_of-work-in_default-end
-shape_of-work-in_default-end c = c.finish.auto.output ∙ (after c.before.before.before.before.before.before.before.before.before.before.before.before.before.before.before.before.before.before.before.before.before.before.before.before.before.before.before.before.before.before.before.before.before.before).scratch.work_words ∙ sym c.requires.lift_scratch.work_words
+shape_of-work-in_default-end g c = c.finish.auto.output ∙ (after c.before.before.before.before.before.before.before.before.before.before.before.before.before.before.before.before.before.before.before.before.before.before.before.before.before.before.before.before.before.before.before.before.before.before).scratch.work_words ∙ sym c.requires.lift_scratch.work_words
 
 pub shape_of-output-in_default-end : goal.shape_of-output-in_default-end
-shape_of-output-in_default-end c = c.finish.auto.1.1.1.1.1.1.1.1.1.1.0 ∙ (after c.before.before.before.before.before.before.before.before.before.before.before.before.before.before.before.before.before.before.before.before.before.before.before.before.before.before.before.before.before.before.before.before.before.before).scratch.output_words ∙ sym c.requires.lift_scratch.output_words
+shape_of-output-in_default-end g c = c.finish.auto.1.1.1.1.1.1.1.1.1.1.0 ∙ (after c.before.before.before.before.before.before.before.before.before.before.before.before.before.before.before.before.before.before.before.before.before.before.before.before.before.before.before.before.before.before.before.before.before.before).scratch.output_words ∙ sym c.requires.lift_scratch.output_words
 
 pub loop-turns-smaller : goal.loop-turns-smaller
-loop-turns-smaller c = omega (arith, c.loop-turns-test.true)
+loop-turns-smaller g c = omega (arith, c.loop-turns-test.true)
 
 pub loop-turns-preserved : goal.loop-turns-preserved
-loop-turns-preserved c =
+loop-turns-preserved g c =
     let next = after c.before.before.before.before.before.before.before.before.before.before.before.before.before.before.before.before.before in
     record {
       lists = next.lists;
@@ -153,22 +153,22 @@ loop-turns-preserved c =
     }
 
 pub shape_of-list : goal.shape_of-list
-shape_of-list c = c.loop-turns.invariant.lists ∙ sym c.requires.list_len.0
+shape_of-list g c = c.loop-turns.invariant.lists ∙ sym c.requires.list_len.0
 
 pub shape_of-space : goal.shape_of-space
-shape_of-space c = c.loop-turns.invariant.spaces ∙ sym c.requires.list_len.1
+shape_of-space g c = c.loop-turns.invariant.spaces ∙ sym c.requires.list_len.1
 
 pub shape_of-out : goal.shape_of-out
-shape_of-out c = c.loop-turns.invariant.outs ∙ sym c.requires.list_len.2
+shape_of-out g c = c.loop-turns.invariant.outs ∙ sym c.requires.list_len.2
 
 pub shape_of-tree : goal.shape_of-tree
-shape_of-tree c = c.loop-turns.invariant.scratch.first_tree ∙ sym c.requires.lift_scratch.first_tree
+shape_of-tree g c = c.loop-turns.invariant.scratch.first_tree ∙ sym c.requires.lift_scratch.first_tree
 
 pub shape_of-again : goal.shape_of-again
-shape_of-again c = c.loop-turns.invariant.scratch.second_tree ∙ sym c.requires.lift_scratch.second_tree
+shape_of-again g c = c.loop-turns.invariant.scratch.second_tree ∙ sym c.requires.lift_scratch.second_tree
 
 pub shape_of-work : goal.shape_of-work
-shape_of-work c = c.loop-turns.invariant.scratch.work_words ∙ sym c.requires.lift_scratch.work_words
+shape_of-work g c = c.loop-turns.invariant.scratch.work_words ∙ sym c.requires.lift_scratch.work_words
 
 pub shape_of-output : goal.shape_of-output
-shape_of-output c = c.loop-turns.invariant.scratch.output_words ∙ sym c.requires.lift_scratch.output_words
+shape_of-output g c = c.loop-turns.invariant.scratch.output_words ∙ sym c.requires.lift_scratch.output_words

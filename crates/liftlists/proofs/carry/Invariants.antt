@@ -10,10 +10,10 @@ use Rattle.liftlists.proofs.carry.Given as goal
 
 -- LEFT: 21 names for 24
 abbrev pub invariant-loop-turns : goal.invariant-loop-turns
-invariant-loop-turns l =
+invariant-loop-turns g l =
     Sofar l.initial.input l.initial.at l.initial.turns l.input l.list l.space l.out l.tree l.again l.work
 
 -- LEFT: 21 names for 24
 abbrev pub decreases-loop-turns : goal.decreases-loop-turns
-decreases-loop-turns l =
+decreases-loop-turns g l =
     l.output

@@ -8,11 +8,11 @@ use Rattle.treelist.proofs.{InputLaws.{front-prints}}
 use Rattle.treelist.proofs.answer_input.Goals as goal
 
 pub put_bytes-requires : goal.put_bytes-requires
-put_bytes-requires c =
+put_bytes-requires g c =
     let came = c.requires in omega (arith, length-take 2564 came.input, ap length came.first)
 
 pub hand-requires : goal.hand-requires
-hand-requires c =
+hand-requires g c =
     let laid = c.listing-n.ensures.wrote in
     let put = c.put_bytes in
     let came = c.requires in

@@ -8,12 +8,10 @@ use Rattle.treelist.specs.Input.{RestRead}
 use Rattle.treelist.proofs.{InputLaws.{rest-on}}
 use Rattle.treelist.proofs.count_rest.Given as goal
 
--- LEFT: 6 names for 8
 abbrev pub invariant-loop-turns : goal.invariant-loop-turns
-invariant-loop-turns l =
-    (length l.initial.turns ≡ 65536) × (l.input.bytes + 65536 * l.space ≤ 72057594037927936) × RestRead l.initial.turns l.input.last l.input.bytes
+invariant-loop-turns g l =
+    (length l.space ≡ 65536) × (l.rest.bytes + 65536 * l.turns ≤ 72057594037927936) × RestRead l.space l.rest.last l.rest.bytes
 
--- LEFT: 6 names for 8
 abbrev pub decreases-loop-turns : goal.decreases-loop-turns
-decreases-loop-turns l =
-    l.space
+decreases-loop-turns g l =
+    l.turns

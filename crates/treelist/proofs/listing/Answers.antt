@@ -9,7 +9,7 @@ pub put_answer-requires : goal.put_answer-requires
 put_answer-requires c =
     let words = c.words_of.new.words in
     rw c.answer-answered.ensures.result_value
-    (printable c.args.bytes words c.args.out.now c.answer-answered.new.messages c.answer-answered.new.1.1.1.0
+    (printable c.args.bytes words c.args.out.now c.answer-answered.new.tree c.answer-answered.new.messages
     (search rules) (search rules) (search rules) (search rules))
 
 pub returns : goal.returns

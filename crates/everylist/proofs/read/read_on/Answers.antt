@@ -7,7 +7,7 @@ use Rattle.everylist.specs.EveryList.{all_numbers}
 use Rattle.everylist.proofs.read.read_on.Goals as goal
 
 pub returns-then-rest : goal.returns-then-rest
-returns-then-rest c =
+returns-then-rest g c =
     let came = c.fill-came in
     let words = all_numbers (words_in (take came.result.bytes came.new.0)) in
     record {

@@ -15,17 +15,17 @@ use Rattle.everylist.proofs.read.read_rest.Reads as reads
 
 pub loop-turns-init : goal.loop-turns-init
 unfolding words_in all_numbers
-loop-turns-init c = (c.requires, omega arith, refl, record { before = []; bytes = refl; fine = refl; room = omega arith })
+loop-turns-init g c = (c.requires, omega arith, refl, record { before = []; bytes = refl; fine = refl; room = omega arith })
 
 -- What came with the chunk that was read.
 came : (c : (lts.After-read_on tie.the-claims reads.Pre reads.Post goal.the-invariant-loop-turns goal.the-decreases-loop-turns tie.handed_clauses)) → RestRead c.read_on-next.new.rest c.read_on-next.result
-came c =
+came g c =
     let at = c.loop-turns in
     let on = c.read_on-next.ensures in
     rest-on at.space _ at.rest c.read_on-next.result at.invariant.3 at.invariant.2 (omega (arith, on.bytes, on.few)) on
 
 pub loop-turns-preserved : goal.loop-turns-preserved
-loop-turns-preserved c =
+loop-turns-preserved g c =
     let at = c.loop-turns in
     let on = c.read_on-next.ensures in
     let size = c.read_on-next.auto.rest ∙ at.invariant.0 in
@@ -33,17 +33,17 @@ loop-turns-preserved c =
     (size, omega (arith, on.bytes, full), omega (arith, on.bytes, full, at.invariant.2), came c.before.before.before.before)
 
 pub shape_of-space-in_default : goal.shape_of-space-in_default
-shape_of-space-in_default c =
+shape_of-space-in_default g c =
     c.read_on-next.auto.rest ∙ (c.loop-turns.invariant.0 ∙ sym c.requires)
 
 pub returns-in_default : goal.returns-in_default
-returns-in_default c =
+returns-in_default g c =
     came c.before.before.before.before
 
 pub shape_of-space : goal.shape_of-space
-shape_of-space c =
+shape_of-space g c =
     c.loop-turns.invariant.0 ∙ sym c.requires
 
 pub returns : goal.returns
-returns c =
+returns g c =
     c.loop-turns.invariant.3

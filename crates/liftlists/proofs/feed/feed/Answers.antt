@@ -25,7 +25,7 @@ pub record Sofar (to : ℕ) (here : List ℕ → List ℕ) (chunk list out tree 
   pub goes : FileGoes here (take i chunk) (yet to (held_in then list) out end)
 
 pub loop-i-init : goal.loop-i-init
-loop-i-init c =
+loop-i-init g c =
     let p = c.requires in
     record {
       within = omega arith;
@@ -39,7 +39,7 @@ loop-i-init c =
     }
 
 pub spill-room-requires : goal.spill-room-requires
-spill-room-requires c =
+spill-room-requires g c =
     let at = c.loop-i in
     (
       omega (arith, at.invariant.laid, at.invariant.outs),
@@ -47,61 +47,61 @@ spill-room-requires c =
     )
 
 pub shape_of-list-in_default : goal.shape_of-list-in_default
-shape_of-list-in_default c = c.loop-i.invariant.lists ∙ sym c.requires.list_len.0
+shape_of-list-in_default g c = c.loop-i.invariant.lists ∙ sym c.requires.list_len.0
 
 pub shape_of-out-in_default : goal.shape_of-out-in_default
-shape_of-out-in_default c = c.loop-i.invariant.outs ∙ sym c.requires.list_len.3
+shape_of-out-in_default g c = c.loop-i.invariant.outs ∙ sym c.requires.list_len.3
 
 pub shape_of-tree-in_default : goal.shape_of-tree-in_default
-shape_of-tree-in_default c = c.loop-i.invariant.scratch.first_tree ∙ sym c.requires.lift_scratch.first_tree
+shape_of-tree-in_default g c = c.loop-i.invariant.scratch.first_tree ∙ sym c.requires.lift_scratch.first_tree
 
 pub shape_of-again-in_default : goal.shape_of-again-in_default
-shape_of-again-in_default c = c.loop-i.invariant.scratch.second_tree ∙ sym c.requires.lift_scratch.second_tree
+shape_of-again-in_default g c = c.loop-i.invariant.scratch.second_tree ∙ sym c.requires.lift_scratch.second_tree
 
 pub shape_of-work-in_default : goal.shape_of-work-in_default
-shape_of-work-in_default c = c.loop-i.invariant.scratch.work_words ∙ sym c.requires.lift_scratch.work_words
+shape_of-work-in_default g c = c.loop-i.invariant.scratch.work_words ∙ sym c.requires.lift_scratch.work_words
 
 pub shape_of-output-in_default : goal.shape_of-output-in_default
-shape_of-output-in_default c = c.loop-i.invariant.scratch.output_words ∙ sym c.requires.lift_scratch.output_words
+shape_of-output-in_default g c = c.loop-i.invariant.scratch.output_words ∙ sym c.requires.lift_scratch.output_words
 
 pub bounds-chunk-i : goal.bounds-chunk-i
-bounds-chunk-i c = omega (arith, c.loop-i-test.true)
+bounds-chunk-i g c = omega (arith, c.loop-i-test.true)
 
 pub overflow_add-i : goal.overflow_add-i
-overflow_add-i c = omega (arith, c.loop-i-test.true)
+overflow_add-i g c = omega (arith, c.loop-i-test.true)
 
 pub bounds-chunk-i-in-loop-i : goal.bounds-chunk-i-in-loop-i
-bounds-chunk-i-in-loop-i c = omega (arith, c.loop-i-test.true)
+bounds-chunk-i-in-loop-i g c = omega (arith, c.loop-i-test.true)
 
 pub overflow_add-i-in-loop-i : goal.overflow_add-i-in-loop-i
-overflow_add-i-in-loop-i c = omega (arith, c.loop-i-test.true)
+overflow_add-i-in-loop-i g c = omega (arith, c.loop-i-test.true)
 
 pub bounds-chunk-i-in-loop-i-2 : goal.bounds-chunk-i-in-loop-i-2
-bounds-chunk-i-in-loop-i-2 c = omega (arith, c.loop-i-test.true)
+bounds-chunk-i-in-loop-i-2 g c = omega (arith, c.loop-i-test.true)
 
 pub overflow_add-i-in-loop-i-2 : goal.overflow_add-i-in-loop-i-2
-overflow_add-i-in-loop-i-2 c = omega (arith, c.loop-i-test.true)
+overflow_add-i-in-loop-i-2 g c = omega (arith, c.loop-i-test.true)
 
 pub bounds-chunk-i-in-loop-i-3 : goal.bounds-chunk-i-in-loop-i-3
-bounds-chunk-i-in-loop-i-3 c = omega (arith, c.loop-i-test.true)
+bounds-chunk-i-in-loop-i-3 g c = omega (arith, c.loop-i-test.true)
 
 -- What is laid before the word, and that the rest was handed over.
 spilled : (c : (lts.After-room tie.the-claims reads.Pre reads.Post goal.the-invariant-loop-i goal.the-decreases-loop-i tie.handed_clauses)) → Spilled (At c.in-At.start) c.loop-i.out c.loop-i.end
-spilled c = rw c.in-At.is at c.spill-room.ensures
+spilled g c = rw c.in-At.is at c.spill-room.ensures
 
 pub take_word-step-requires : goal.take_word-step-requires
-take_word-step-requires c =
+take_word-step-requires g c =
     record { list_len = (c.loop-i.invariant.lists, c.requires.list_len.1, omega (arith, (spilled c.before.before.before.before.before.before.before.before.before.before.before.before).0, c.loop-i.invariant.outs)); lift_scratch = c.loop-i.invariant.scratch; fine = c.loop-i.invariant.fine }
 
 pub overflow_add-i-in-loop-i-3 : goal.overflow_add-i-in-loop-i-3
-overflow_add-i-in-loop-i-3 c =
+overflow_add-i-in-loop-i-3 g c =
     omega (arith, c.before.before.before.before.before.before.before.before.before.before.before.before.before.before.before.before.before.before.before.before.before.before.before.before.before.before.before.before.before.before.before.before.before.before.before.before.before.before, c.loop-i-test.true)
 
 pub loop-i-smaller : goal.loop-i-smaller
-loop-i-smaller c = omega (arith, c.loop-i-test.true)
+loop-i-smaller g c = omega (arith, c.loop-i-test.true)
 
 pub loop-i-preserved : goal.loop-i-preserved
-loop-i-preserved c =
+loop-i-preserved g c =
     let inv = c.loop-i.invariant in
     let chunk = c.args.chunk.now in
     let turn : c.loop-i.i + 4 ≤ length chunk = omega (arith, c.loop-i-test.true, inv.within) in
@@ -122,25 +122,25 @@ loop-i-preserved c =
     }
 
 pub shape_of-list : goal.shape_of-list
-shape_of-list c = c.loop-i.invariant.lists ∙ sym c.requires.list_len.0
+shape_of-list g c = c.loop-i.invariant.lists ∙ sym c.requires.list_len.0
 
 pub shape_of-out : goal.shape_of-out
-shape_of-out c = c.loop-i.invariant.outs ∙ sym c.requires.list_len.3
+shape_of-out g c = c.loop-i.invariant.outs ∙ sym c.requires.list_len.3
 
 pub shape_of-tree : goal.shape_of-tree
-shape_of-tree c = c.loop-i.invariant.scratch.first_tree ∙ sym c.requires.lift_scratch.first_tree
+shape_of-tree g c = c.loop-i.invariant.scratch.first_tree ∙ sym c.requires.lift_scratch.first_tree
 
 pub shape_of-again : goal.shape_of-again
-shape_of-again c = c.loop-i.invariant.scratch.second_tree ∙ sym c.requires.lift_scratch.second_tree
+shape_of-again g c = c.loop-i.invariant.scratch.second_tree ∙ sym c.requires.lift_scratch.second_tree
 
 pub shape_of-work : goal.shape_of-work
-shape_of-work c = c.loop-i.invariant.scratch.work_words ∙ sym c.requires.lift_scratch.work_words
+shape_of-work g c = c.loop-i.invariant.scratch.work_words ∙ sym c.requires.lift_scratch.work_words
 
 pub shape_of-output : goal.shape_of-output
-shape_of-output c = c.loop-i.invariant.scratch.output_words ∙ sym c.requires.lift_scratch.output_words
+shape_of-output g c = c.loop-i.invariant.scratch.output_words ∙ sym c.requires.lift_scratch.output_words
 
 pub returns : goal.returns
-returns c =
+returns g c =
     let at = c.loop-i in
     let inv = at.invariant in
     let chunk = c.args.chunk.now in
@@ -148,9 +148,9 @@ returns c =
     (inv.fine, inv.laid, rw all at inv.goes)
 
 pub overflow_sub-chunk : goal.overflow_sub-chunk
-overflow_sub-chunk c =
+overflow_sub-chunk g c =
     c.loop-i.invariant.within
 
 pub returns-in_default : goal.returns-in_default
-returns-in_default c =
+returns-in_default g c =
     _

@@ -11,10 +11,10 @@ use Rattle.liftlists.proofs.feed.feed.Given as goal
 
 -- LEFT: 21 names for 22
 abbrev pub invariant-loop-i : goal.invariant-loop-i
-invariant-loop-i l =
+invariant-loop-i g l =
     Sofar l.chunk (yet l.chunk (held_in l.initial.output l.rt) l.to l.initial.then) l.initial.list l.initial.i l.list l.out l.tree l.again l.work l.output l.then l.end
 
 -- LEFT: 21 names for 22
 abbrev pub decreases-loop-i : goal.decreases-loop-i
-decreases-loop-i l =
+decreases-loop-i g l =
     length l.initial.list - l.end

@@ -8,29 +8,12 @@ use Rattle.treelist.specs.{declared.asked.Request.TheVariants.{List as Request-L
 use borrow.Author.Rules.{rules}
 use Rattle.treelist.proofs.AskedLaws.{back-told, back-tree, back-messages, read-fault, read_answer}
 use Rattle.treelist.proofs.asked.answer.Goals as goal
-use Rattle.treelist.proofs.asked.answer.Lts as lts
-use Rattle.treelist.proofs.asked.answer.Tie as tie
-use Rattle.treelist.proofs.asked.answer.Reads as reads
-
--- What is asked for is a list of so many words.
-module _ (c : (lts.After-known_told2 tie.the-claims reads.Pre reads.Post tie.handed_clauses)) where
-  abbrev start : (lts.Start tie.the-claims reads.Pre reads.Post tie.handed_clauses)
-  start = c.before.before.before.before.before.before.before.before
-
-  abbrev count : ℕ
-  count = c.in-List.n
-
-  counts : Counted (Request-List count) start.args.bytes (get_or start.args.words.now 0 0)
-  counts = rw c.in-List.is at c.asked-wanted.ensures.counted
-
-  goes : none ≡ turned_back start.args.bytes (get_or start.args.words.now 0 0)
-  goes = ap refusal_of (sym c.in-List.is) ∙ c.asked-wanted.ensures.result_value
 
 pub read_list-requires : goal.read_list-requires
 read_list-requires c =
-    let n = count at in
-    let words = (start at).args.words.now in
-    let fit = counts at in
+    let fit : Counted (Request-List c.in-List.n) c.args.bytes (get_or c.args.words.now 0 0) = rw c.in-List.is at c.asked-wanted.ensures.counted in
+    let n = c.in-List.n in
+    let words = c.args.words.now in
     let whole : length (take (n + 1 - 1) (drop 1 words)) ≡ n =
     omega (arith, fit, length-take (n + 1 - 1) (drop 1 words), length-drop 1 words)
     in
@@ -53,12 +36,14 @@ returns-in-Refused c =
 
 pub returns-in-List : goal.returns-in-List
 returns-in-List c =
+    let fit : Counted (Request-List c.in-List.n) c.args.bytes (get_or c.args.words.now 0 0) = rw c.in-List.is at c.asked-wanted.ensures.counted in
     let version = c.version_of-version in
-    let bytes = (start at).args.bytes in
-    let words = (start at).args.words.now in
-    let fault = read-fault bytes words (count at) (goes at) (counts at).0 in
+    let bytes = c.args.bytes in
+    let words = c.args.words.now in
+    let goes : none ≡ turned_back bytes (get_or words 0 0) = ap refusal_of (sym c.in-List.is) ∙ c.asked-wanted.ensures.result_value in
+    let fault = read-fault bytes words c.in-List.n goes fit.0 in
     let answered =
-    read_answer bytes words (count at) (to_z w16 (of_z w16 version.result)) (counts at).0
+    read_answer bytes words c.in-List.n (to_z w16 (of_z w16 version.result)) fit.0
     (to_z-of_z {w = w16} {z = version.result} (record { sfits = version.type_inv }) ∙ version.ensures)
     in
     let read = c.read_list.ensures in
@@ -66,12 +51,15 @@ returns-in-List c =
 
 pub version_of-version-requires : goal.version_of-version-requires
 version_of-version-requires c =
-    (counts c).3
+    let counts : Counted (Request-List c.in-List.n) c.args.bytes (get_or c.args.words.now 0 0) = rw c.in-List.is at c.asked-wanted.ensures.counted in
+    counts.3
 
 pub overflow_add-n : goal.overflow_add-n
 overflow_add-n c =
-    omega (arith, counts c.before)
+    let counts : Counted (Request-List c.in-List.n) c.args.bytes (get_or c.args.words.now 0 0) = rw c.in-List.is at c.asked-wanted.ensures.counted in
+    omega (arith, counts)
 
 pub slice_bounds-read_list-end : goal.slice_bounds-read_list-end
 slice_bounds-read_list-end c =
-    omega (arith, counts c.before)
+    let counts : Counted (Request-List c.in-List.n) c.args.bytes (get_or c.args.words.now 0 0) = rw c.in-List.is at c.asked-wanted.ensures.counted in
+    omega (arith, counts)
