@@ -10,8 +10,8 @@ pub put_bytes-requires : goal.put_bytes-requires
 put_bytes-requires g c =
     let came = c.requires in omega (arith, length-take 44 came.input, ap length came.first)
 
-pub slice_bounds-print-end : goal.slice_bounds-print-end
-slice_bounds-print-end g c =
+pub print-printed-requires : goal.print-printed-requires
+print-printed-requires g c =
     let read = c.words_of in
     let put = c.put_bytes in
     (search rules, kept-came _ _ _ _ _ c.requires put.ensures.whole read.ensures)

@@ -9,12 +9,10 @@ use Rattle.everylist.proofs.{InputLaws.{Sofar, all-printed}, StepLaws.{stepped-r
 use Rattle.everylist.proofs.{Prints.{text-early}}
 use Rattle.everylist.proofs.print.Given as goal
 
--- LEFT: 7 names for 9
 abbrev pub invariant-loop-n : goal.invariant-loop-n
 invariant-loop-n g l =
-    (l.to ≤ 299593) × (length l.initial.position ≡ 2048) × Sofar (kept l.words l.initial.to l.bytes) l.to
+    (l.position ≤ 299593) × (length l.out ≡ 2048) × Sofar (kept l.bytes l.words l.fine) l.position
 
--- LEFT: 7 names for 9
 abbrev pub decreases-loop-n : goal.decreases-loop-n
 decreases-loop-n g l =
-    299594 - l.to
+    299594 - l.position

@@ -1,16 +1,11 @@
--- `lines::run` meets its contract: the numbers left fall. Assumes nothing.
-use Prim.Native.Nat.{◌-◌, ◌≤◌}
-use native.Mathlib.Omega.{arith}
-use lib.ListN.{length}
-use borrow.Author.Rules.{rules}
+-- `lines::run` is safe: no more lines were counted than bytes of the text were passed. The measure is what is left of the numbers.
+use Rattle.std.proofs.Common.{length, ◌-◌, ◌≤◌}
 use Rattle.lines.proofs.run.Given as goal
 
--- LEFT: 10 names for 11
 abbrev pub invariant-loop-start : goal.invariant-loop-start
 invariant-loop-start g l =
-    (l.initial.others ≤ length l.rt) × (l.start ≤ length l.numbers) × (l.from ≤ l.initial.others) × (l.count ≤ l.from)
+    (l.start ≤ length l.numbers) × (l.from ≤ length l.text) × (l.count ≤ l.start) × (l.others ≤ l.count)
 
--- LEFT: 10 names for 11
 abbrev pub decreases-loop-start : goal.decreases-loop-start
 decreases-loop-start g l =
-    length l.rt - l.initial.others
+    length l.numbers - l.start

@@ -9,10 +9,10 @@ use Rattle.everylist.proofs.read.read_on.Goals as goal
 pub returns-then-rest : goal.returns-then-rest
 returns-then-rest g c =
     let came = c.fill-came in
-    let words = all_numbers (words_in (take came.result.bytes came.new.0)) in
+    let words = all_numbers (words_in (take came.result.bytes came.new.buffer)) in
     record {
-      few = came.ensures.0.0;
-      full = came.ensures.1;
+      few = came.ensures.prefix_len.0;
+      full = came.ensures.full_by;
       bytes = refl;
       fine = c.fine_words-fine.ensures ∙ sym (ap (λ (b : Bool). b && words) c.if-rest.true);
     }

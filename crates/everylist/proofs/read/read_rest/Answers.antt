@@ -9,36 +9,26 @@ use Rattle.listing.specs.Lists.{words_in}
 use Rattle.everylist.specs.{EveryList.{all_numbers}, Input.{RestRead}}
 use Rattle.everylist.proofs.{InputLaws.{rest-on}}
 use Rattle.everylist.proofs.read.read_rest.Goals as goal
-use Rattle.everylist.proofs.read.read_rest.Lts as lts
-use Rattle.everylist.proofs.read.read_rest.Tie as tie
-use Rattle.everylist.proofs.read.read_rest.Reads as reads
 
 pub loop-turns-init : goal.loop-turns-init
 unfolding words_in all_numbers
 loop-turns-init g c = (c.requires, omega arith, refl, record { before = []; bytes = refl; fine = refl; room = omega arith })
 
--- What came with the chunk that was read.
-came : (c : (lts.After-read_on tie.the-claims reads.Pre reads.Post goal.the-invariant-loop-turns goal.the-decreases-loop-turns tie.handed_clauses)) → RestRead c.read_on-next.new.rest c.read_on-next.result
-came g c =
-    let at = c.loop-turns in
-    let on = c.read_on-next.ensures in
-    rest-on at.space _ at.rest c.read_on-next.result at.invariant.3 at.invariant.2 (omega (arith, on.bytes, on.few)) on
-
 pub loop-turns-preserved : goal.loop-turns-preserved
 loop-turns-preserved g c =
     let at = c.loop-turns in
     let on = c.read_on-next.ensures in
-    let size = c.read_on-next.auto.rest ∙ at.invariant.0 in
+    let size = c.read_on-next.auto.space ∙ at.invariant.0 in
     let full = rw c.in-Full.is at on.full in
-    (size, omega (arith, on.bytes, full), omega (arith, on.bytes, full, at.invariant.2), came c.before.before.before.before)
+    (size, omega (arith, on.bytes, full), omega (arith, on.bytes, full, at.invariant.2), (let on = c.read_on-next.ensures in rest-on c.loop-turns.space _ c.loop-turns.rest c.read_on-next.result c.loop-turns.invariant.3 c.loop-turns.invariant.2 (omega (arith, on.bytes, on.few)) on))
 
 pub shape_of-space-in_default : goal.shape_of-space-in_default
 shape_of-space-in_default g c =
-    c.read_on-next.auto.rest ∙ (c.loop-turns.invariant.0 ∙ sym c.requires)
+    c.read_on-next.auto.space ∙ (c.loop-turns.invariant.0 ∙ sym c.requires)
 
 pub returns-in_default : goal.returns-in_default
 returns-in_default g c =
-    came c.before.before.before.before
+    (let on = c.read_on-next.ensures in rest-on c.loop-turns.space _ c.loop-turns.rest c.read_on-next.result c.loop-turns.invariant.3 c.loop-turns.invariant.2 (omega (arith, on.bytes, on.few)) on)
 
 pub shape_of-space : goal.shape_of-space
 shape_of-space g c =

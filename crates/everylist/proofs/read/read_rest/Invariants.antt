@@ -9,12 +9,10 @@ use Rattle.everylist.specs.{EveryList.{all_numbers}, Input.{RestRead}}
 use Rattle.everylist.proofs.{InputLaws.{rest-on}}
 use Rattle.everylist.proofs.read.read_rest.Given as goal
 
--- LEFT: 6 names for 8
 abbrev pub invariant-loop-turns : goal.invariant-loop-turns
 invariant-loop-turns g l =
-    (length l.initial.turns ≡ 65536) × (l.input.bytes + 65536 * l.space ≤ 72057594037927936) × (l.input.bytes % 4 ≡ 0) × RestRead l.initial.turns l.input
+    (length l.space ≡ 65536) × (l.rest.bytes + 65536 * l.turns ≤ 72057594037927936) × (l.rest.bytes % 4 ≡ 0) × RestRead l.space l.rest
 
--- LEFT: 6 names for 8
 abbrev pub decreases-loop-turns : goal.decreases-loop-turns
 decreases-loop-turns g l =
-    l.space
+    l.turns

@@ -17,4 +17,4 @@ returns c =
     let put = c.put_answer-end.ensures in
     let a = c.args in
     stepped a.out.now c.put_answer-end.new.out _
-    (refused-first a.number a.position (kept 0 [] true) (replicate 1 0) (replicate 1 0) (omega arith)) put
+    (refused-first a.number a.position (kept 0 [] true) (replicate 1 0) (replicate 1 0) (omega arith)) (put.upper_bound, put.wrote)

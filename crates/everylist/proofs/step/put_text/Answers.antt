@@ -43,4 +43,4 @@ returns c =
     let a = c.args in
     let told = rw (to_z-of_z c.ranges.version) at c.read_list-answered.ensures in
     record { upper_bound = put.upper_bound; wrote = text-laid a.version a.tokens a.list.now (omega arith) (omega arith) c.put_head-end.ensures (replicate 126 0)
-          (replicate 16 0) told.0 told.1.0 told.1.1.0 put.wrote }
+          (replicate 16 0) told.result_value told.tree_after told.messages_after put.wrote }

@@ -13,11 +13,10 @@ put_list-requires c =
 
 pub returns-in-Refused : goal.returns-in-Refused
 returns-in-Refused c =
-    let found = c.found.given in
     let a = c.args in
     stepped a.out.now c.put_refusal.new.out _
-    (back_step (kept a.bytes a.words.now a.fine) found.0.0 a.position
-    (ap fault_of (sym found.1) ∙ c.kept_fault-found.ensures)) c.put_refusal.ensures
+    (back_step (kept a.bytes a.words.now a.fine) c.in-Refused.number a.position
+    (ap fault_of (sym c.in-Refused.is) ∙ c.kept_fault-found.ensures)) c.put_refusal.ensures
 
 pub returns-in-Nothing : goal.returns-in-Nothing
 returns-in-Nothing c =
