@@ -23,7 +23,7 @@ help:
 	@echo 'make programs   proves the programs everylist, liftcount, liftlists and treelist and builds them, to target/bin'
 	@echo 'make host       runs the tests of the host crate'
 	@echo 'make browser    looks at the pages of draw and report in a headless Chromium, and takes screenshots'
-	@echo 'make test       the gate: everything from nothing, which takes long; removes target/ first'
+	@echo 'make test       the gate: rt ci, which takes long where nothing is proved yet, the Rust tests and all that is looked at besides'
 	@echo 'make compare    compares the library and the programs with the Rust parser (LISTS=5000000 SEED=1)'
 	@echo 'make bench      times reading, writing, stack order, lifting and the programs' \
 	    '(SORBRUDDER_BEFORE=folder of an archive to time beside)'
@@ -46,12 +46,12 @@ believed:
 LIBRARY := target/staticlib/libsorbrudder.a
 library: $(LIBRARY)
 
-$(LIBRARY): crates.txt $(shell find crates -name must-fail -prune -o -type f -print)
+$(LIBRARY): crates.txt $(shell find crates -name must-fail -prune -o -path 'crates/*/out' -prune -o -type f -print)
 	@tools/library.sh
 
 # The programs, to target/bin. What is proved already is not proved again.
 programs:
-	@rt check everylist liftcount liftlists treelist
+	@tools/programs.sh
 
 # The library and the programs as they are proved here, for machines without rt; the gate compares them with what it builds.
 prebuilt: library programs

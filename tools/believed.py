@@ -73,21 +73,21 @@ QUESTIONS = [
         [
             (THEOREM, "molang", f"proofs/{file}", name)
             for file, names in [
-                ("RoundTrip", "round-trip demand-3"),
+                ("RoundTrip", "round_trip demand-3"),
                 ("Entries", "three-calls"),
                 ("Reread", "demand-3"),
                 ("Lifts", "written-lifts straight"),
-                ("Lift", "lift-reads comes-same comes-out lifted-again stays-on any-engines going-straight behind-for reason-behind"),
+                ("Lift", "lift-reads comes-same comes-out lifted-again stays_on any-engines going-straight behind-for reason-behind"),
                 ("Grammar", "text-reads one-reading text-answered same-at-all"),
                 ("NoMasks", "no-masks"),
-                ("NoFrames", "no-frames"),
+                ("NoFrames", "no_frames"),
                 ("Unfolded", "through-again"),
                 ("Bounds", "read-tree read-messages"),
                 ("Nesting", "never-18 first-deep"),
                 ("Limits", "limit-only"),
                 ("OpenInLimit", "open-in-limit"),
                 ("Hosts", "hostless-same hosts-written"),
-                ("Payloads", "one-name one-name-ruled one-node"),
+                ("Payloads", "one_name one-name-ruled one-node"),
                 ("PayloadChain", "one-name-on"),
                 ("FreeReach", "one-name-free one-node-free"),
                 ("Matching", "nothing-lost"),
@@ -100,7 +100,7 @@ QUESTIONS = [
             (THEOREM, "held", f"proofs/{file}", name)
             for file, names in [
                 ("History", "afresh as-asked"),
-                ("Running", "ran-after words-are asked-afresh committed-as-asked"),
+                ("Running", "ran-after words_are asked-afresh committed-as-asked"),
             ]
             for name in names.split()
         ]
@@ -109,7 +109,7 @@ QUESTIONS = [
 ]
 
 MODIFIER = r"(?:(?:pub|abbrev|unfoldable|data|record|type) )*"
-# `use Rattle·CRATE.specs.MODULE.{NAMES}`; within the crate itself the part is named twice. In code with `ghost` and `;`.
+# `use Rattle.CRATE.specs.MODULE.{NAMES}`. In code with `ghost` and `;`.
 USE = re.compile(r"(?:ghost )?use (\S.*?);?$")
 LONG_USE = re.compile(r"^((?:ghost )?use [^\n{]*\{)\n([^}]*)\}", re.MULTILINE)
 HEAD = """# What must be believed
@@ -237,11 +237,10 @@ class File:
 
     def bring(self, tree):
         for path, alias in parts_of(tree):
-            if not path.startswith("Rattle·"):
+            if not path.startswith("Rattle."):
                 continue
-            found = re.fullmatch(r"Rattle·(\w+)(?:·\w+)?\.(?:specs\.|proofs\.)?(specs|proofs)\.(.+)", path)
-            if not found and re.fullmatch(r"Rattle·(\w+)(?:·\w+)?\.(?:specs\.)?declared\..+", path):
-                found = re.fullmatch(r"Rattle·(\w+)(?:·\w+)?\.(?:specs\.)?(declared)\.(.+)", path)
+            found = re.fullmatch(r"Rattle\.(\w+)\.specs\.(declared|contracts)\.(.+)", path)
+            found = found or re.fullmatch(r"Rattle\.(\w+)\.(specs|proofs)\.(.+)", path)
             if not found:
                 stop(f"{self.path.relative_to(ROOT)}: cannot read `use {path}`")
             crate, part, rest = found[1], found[2], found[3]
@@ -261,6 +260,9 @@ class File:
         for word in words:
             if word.startswith("."):
                 continue
+            # Of `name.field` the name counts; a variable's fields are its type's.
+            if word not in self.imports:
+                word = word if word.split(".")[0] in self.imports else word.split(".")[0]
             if word in self.owner and self.path.suffix == ".antt":
                 yield self, self.owner[word]
             elif word in self.imports:
@@ -271,7 +273,8 @@ class File:
                 yield from self.found(word, crate, part, f"{module}.{rest}")
 
     def found(self, word, crate, part, path):
-        if part == "declared" or path.startswith("declared."):
+        # What the checker makes of code.
+        if part in ("declared", "contracts"):
             return
         pieces = path.split(".")
         if (CRATES / crate / part / f"{'/'.join(pieces)}.antt").exists():

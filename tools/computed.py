@@ -29,7 +29,7 @@ def written():
                 sys.exit(f"computed: `{name}` stands in {home[name]} and in {module}")
             home[name] = module
         if own:
-            uses.append(f"use Rattle·molang·specs.specs.{module}.{{{', '.join(own)}}}\n")
+            uses.append(f"use Rattle.molang.specs.{module}.{{{', '.join(own)}}}\n")
             names += own
     return f"{INTRODUCTION}{''.join(uses)}\nunfoldable pub computed : Unit {{0}}\nunfolding {' '.join(names)}\ncomputed = tt\n"
 

@@ -4,7 +4,7 @@
     tools/definition_check.py [--count N] [--seed S] [--most M] [--jobs J] [--oracle DIR]
 
 Takes N cases (default 3000) of at most M tokens (default 16) from the oracle's program `cases`, writes each as an equation between the
-definition's answer and the oracle's, both in words, into scratch crates under target/definition-check/, and has the checker compute both
+definition's answer and the oracle's, both in words, into scratch crates (tools/scratch.py), and has the checker compute both
 sides. The definition is the specs/ of crates/molang as it stands; nothing of this is kept in the tree. Six words of a node are the oracle's;
 where it closes, the seventh, is found from the list by a stack of brackets (card 2). A case with two openers alike that close apart is left
 out, since the oracle's answer does not say which of them a node is. Where a list goes above the nesting limits 1, 2 and 3 (card 8) is
@@ -26,59 +26,59 @@ from concurrent.futures import ThreadPoolExecutor
 from dataclasses import dataclass
 from pathlib import Path
 
-from scratch import ROOT, crate, refused
+from scratch import ROOT, SCRATCH as SCRATCHES, crate, refused
 
-SCRATCH = ROOT / "target" / "definition-check"
+SCRATCH = SCRATCHES / "definition-check"
 BATCH = 50
 OPENERS, CLOSERS = (0, 2, 4), (1, 3, 5)
 HOSTS = range(256, 1024)
 LIMITS = (1, 2, 3)
 
 HEAD = """use Prim.Native.Nat.{ℕ}
-use mathlib.Core.Path.{_≡_, refl}
-use mathlib.Core.List.{List, [], _∷_}
+use mathlib.Core.Path.{◌≡◌, refl}
+use mathlib.Core.List.{List, [], ◌∷◌}
 use lib.IntN.{pos, negsuc}
-use Rattle·molang·proofs.proofs.Computed.{computed}
-use Rattle·molang·proofs.proofs.Asked.{asked}
+use Rattle.molang.proofs.Computed.{computed}
+use Rattle.molang.proofs.Asked.{asked}
 """
 
 # Where a list goes above three limits, as one more than the token's index or 0; then the reading as the entry makes it of a call's words,
 # and the words that it leaves; then the rules of a tree.
 ASKED = """use Prim.Native.Nat.{ℕ, suc}
-use mathlib.Core.List.{List, [], _∷_, _++_}
+use mathlib.Core.List.{List, [], ◌∷◌, ◌++◌}
 use mathlib.Core.Option.{Option, none, some}
 use lib.IntN.{ℤ}
-use Rattle·molang·specs.specs.Forest.{nil, node}
-use Rattle·molang·specs.specs.Read.{Answer, tree, messages}
-use Rattle·molang·specs.specs.Words.{treeWords, tokensOf}
-use Rattle·molang·specs.specs.Nesting.{tooDeep}
-use Rattle·molang·specs.specs.Parse.{reading, recordWords, inHalves}
-use Rattle·molang·specs.specs.Rules.{rulesOf}
+use Rattle.molang.specs.Forest.{nil, node}
+use Rattle.molang.specs.Read.{Answer, tree, messages}
+use Rattle.molang.specs.Words.{tree_words, tokens_of}
+use Rattle.molang.specs.Nesting.{too_deep}
+use Rattle.molang.specs.Parse.{reading, record_words, in_halves}
+use Rattle.molang.specs.Rules.{rules_of}
 
-unfoldable pub answerWords : Answer → List ℕ → List ℕ
-answerWords (tree k cs) rules = treeWords (node k cs nil) ++ rules
-answerWords (messages ms) rules = recordWords ms
+unfoldable pub answer_words : Answer → List ℕ → List ℕ
+answer_words (tree k cs) rules = tree_words (node k cs nil) ++ rules
+answer_words (messages ms) rules = record_words ms
 
 unfoldable pub above : ℕ → List ℕ → ℕ
-above limit list = elim (tooDeep limit (tokensOf list)) [ none ↦ 0 | some i ↦ suc i ]
+above limit list = elim (too_deep limit (tokens_of list)) [ none ↦ 0 | some i ↦ suc i ]
 
 unfoldable pub asked : ℤ → ℕ → ℕ → ℕ → List ℕ → List ℕ
-unfolding above answerWords
+unfolding above answer_words
 asked version source low high list =
-    (above 1 list ∷ above 2 list ∷ above 3 list ∷ []) ++ answerWords
+    (above 1 list ∷ above 2 list ∷ above 3 list ∷ []) ++ answer_words
     (reading
     (record {
       list = list;
       tree = [];
       messages = [];
       work = [];
-      sourceLength = source;
+      source_length = source;
       version = version;
-      usedLow = low;
-      usedHigh = high;
+      used_low = low;
+      used_high = high;
       limit = 4096;
     }))
-    (rulesOf (tokensOf list) (inHalves low high) version)
+    (rules_of (tokens_of list) (in_halves low high) version)
 """
 
 

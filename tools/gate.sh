@@ -1,6 +1,7 @@
 #!/usr/bin/env bash
-# The gate, called by `make test`: sees that every must-fail edit applies and every public function has two, proves every crate from
-# nothing, runs the Rust tests and checks the layout.
+# The gate, called by `make test`: sees that every must-fail edit applies and every public function has two, runs `rt ci`, which proves every
+# crate, tries the must-fail edits, runs the programs and checks the layout of all that is proved, builds the library, runs the Rust tests and
+# checks their layout.
 # Its last line is 'N passed, M failed'; the exit status is 0 only where M is 0.
 set -u
 cd "$(dirname "$0")/.." || exit 1
@@ -39,7 +40,8 @@ for tool in rt cargo make; do
 done
 [ "$failed" -eq 0 ] || finish
 
-# The proofs. The last line of `rt ci` has the count of crates, must-fail edits and programs.
+# The proofs. The last line of `rt ci` has the count of crates and must-fail edits; its line `rt: ok` counts the edits that could not be
+# applied, compiled or read, which fail nothing there and the gate here.
 prove() {
     rt ci 2>&1 | tee "$logs/rt" | sed -E 's/^([0-9]+ passed, [0-9]+ failed)$/rt ci counts \1/'
     local status=${PIPESTATUS[0]}
@@ -50,14 +52,20 @@ prove() {
         echo "gate: the proofs did not run to their end"
         return
     fi
-    local p f
+    local p f bad
     p=$(echo "$last" | cut -d' ' -f1)
     f=$(echo "$last" | cut -d' ' -f3)
     passed=$((passed + p))
     failed=$((failed + f))
     # A refused run never counts as clean.
-    if [ "$status" -ne 0 ] && [ "$f" -eq 0 ]; then
+    if [ "$f" -eq 0 ] && { [ "$status" -ne 0 ] || ! grep -q '^rt: ok; ' "$logs/rt"; }; then
         failed=$((failed + 1))
+        echo "gate: rt ci did not say that all is well"
+    fi
+    bad=$(sed -nE 's/^rt: (ok; .*, ([0-9]+) bad|note: bad must-fail edits, .*: ([0-9]+)\.).*/\2\3/p' "$logs/rt" | sort -n | tail -n 1)
+    if [ "${bad:-0}" -gt 0 ]; then
+        failed=$((failed + bad))
+        echo "gate: $bad must-fail edits are bad"
     fi
 }
 
@@ -84,14 +92,21 @@ if command -v python3 >/dev/null; then
     step "the page of what must be believed is as it would be written" tools/believed.py --check
     step "no public name is declared twice but those that are known" tools/homonyms.py
     step "every name in the documents is one" tools/doc_names.py
+    step "no answer stands in a proof that the check finds" tools/shrink.py --check
 else
-    echo "gate: there is no python3: wrong programs, what must be believed, homonyms and the documents' names were not looked at"
+    echo "gate: there is no python3: wrong programs, what must be believed, homonyms, the documents' names and answers were not looked at"
 fi
+
+# What earlier runs left in out/, `rt ci` puts back, so that the libraries there need not be those that it proves.
+after=--after-ci
+[ -z "$(find crates -mindepth 2 -maxdepth 2 -name out -print -quit)" ] || after=
 
 prove
 
-# The library that the Rust crates link. Where it is not built, the host crate does not build either, and its tests count as failed.
-step "the static library" rt staticlib sorbrudder
+# The library that the Rust crates link, and the programs that they run. Where it is not built, the host crate does not build either, and its
+# tests count as failed.
+step "the static library" tools/library.sh $after
+step "the programs" tools/programs.sh --after-ci
 step "the prebuilt library and programs are those that are proved here" tools/prebuilt.sh --check
 for crate in oracle compare host; do
     rust_tests "$crate"
@@ -104,12 +119,6 @@ if [ ! -f "$source/src/compile/parse/mod.rs" ]; then
     echo "gate: the Rust source is not at hand ($source): the comparison with it was left out"
 fi
 
-step "layout of the Rattle and antt files" rt fmt --check
-if command -v python3 >/dev/null; then
-    step "short proofs stand in the list of needs" tools/shrink.py --check
-else
-    echo "gate: there is no python3: whether proofs could be shorter was not looked at"
-fi
 for crate in oracle oracle/thiserror sys compare host; do
     step "layout of $crate" cargo fmt --manifest-path "$crate/Cargo.toml" --check
 done
@@ -125,6 +134,4 @@ for crate in oracle sys compare host; do
 done
 [ -n "$clippy" ] || echo "gate: cargo has no clippy: it was left out"
 
-echo "gate: seconds for each crate, slowest first:"
-sed -n 's/^rt: \([a-z0-9_]*\) proved (\([0-9]*\) s)$/\2 \1/p' "$logs/rt" | sort -rn | sed 's/^/gate:   /'
 finish

@@ -4,19 +4,19 @@
     tools/lines.py                                   the definition as it stands
     tools/lines.py crates/molang/must-fail/*.edit    the definition with each of these edits
 
-Each line of crates/molang/src/lines.rt is a theorem of its own, in scratch crates under target/lines/.
+Each line of crates/molang/src/lines.rt is a theorem of its own, in scratch crates (tools/scratch.py).
 """
 
 import re
 import sys
 from pathlib import Path
 
-from scratch import MOLANG, ROOT, crate, refused
+from scratch import MOLANG, SCRATCH, crate, refused
 
 HEAD = """use mathlib.Core.Path.{refl}
-use mathlib.Core.List.{[], _∷_}
-use Rattle·molang·proofs.proofs.Computed.{computed}
-use Rattle·molang·specs.specs.Lines.{Answered}
+use mathlib.Core.List.{[], ◌∷◌}
+use Rattle.molang.proofs.Computed.{computed}
+use Rattle.molang.specs.Lines.{Answered}
 """
 
 
@@ -44,7 +44,7 @@ def failing(name, lines, edit):
     theorems = [
         f"{HEAD}\nline : Answered ({' ∷ '.join(map(str, numbers))} ∷ [])\nunfolding computed\nline = refl\n" for _, numbers in lines
     ]
-    return [lines[number][0] for number in refused(crate(ROOT / "target" / "lines" / name, {}, theorems, edit))]
+    return [lines[number][0] for number in refused(crate(SCRATCH / "lines" / name, {}, theorems, edit))]
 
 
 def main():

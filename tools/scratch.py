@@ -1,13 +1,16 @@
-"""Scratch crates under target/: the definition as it stands, or with an edit, and modules of theorems that the checker is to compute."""
+"""Scratch crates in the system's temporary folder, since `rt ci` wants no file of Rattle beside the crates: the definition as it stands, or
+with an edit, and modules of theorems that the checker is to compute."""
 
 import re
 import shutil
 import subprocess
 import sys
+import tempfile
 from pathlib import Path
 
 ROOT = Path(__file__).resolve().parent.parent
 MOLANG = ROOT / "crates" / "molang"
+SCRATCH = Path(tempfile.gettempdir()) / "sorbrudder-scratch"
 
 
 def crate(folder, helpers, theorems, edit=None):
@@ -17,6 +20,8 @@ def crate(folder, helpers, theorems, edit=None):
     """
     crate = folder / "molang"
     shutil.rmtree(crate, ignore_errors=True)
+    folder.mkdir(parents=True, exist_ok=True)
+    (folder / "crates.txt").write_text("molang:\n")
     shutil.copytree(MOLANG / "specs", crate / "specs")
     if edit:
         path, old, new = edit
@@ -25,7 +30,7 @@ def crate(folder, helpers, theorems, edit=None):
             sys.exit(f"scratch: `{old}` does not stand once in {path}")
         (crate / path).write_text(text.replace(old, new))
     (crate / "src").mkdir()
-    (crate / "src" / "lib.rt").write_text("// Only the definition and its cases.\n")
+    (crate / "src" / "lib.rt").write_text("// Only the definition and its cases.\n#![tactic(auto)]\n")
     proofs = crate / "proofs"
     proofs.mkdir()
     shutil.copy(MOLANG / "proofs" / "Computed.antt", proofs)
@@ -38,10 +43,10 @@ def crate(folder, helpers, theorems, edit=None):
 
 def refused(crate):
     """The numbers of the theorems that the checker refuses; none where it proves the crate."""
-    done = subprocess.run(["rt", "check", str(crate)], text=True, stdout=subprocess.PIPE, stderr=subprocess.STDOUT)
+    done = subprocess.run(["rt", "check"], cwd=crate, text=True, stdout=subprocess.PIPE, stderr=subprocess.STDOUT)
     log = crate.parent / "log"
     log.write_text(done.stdout)
     found = sorted({int(number) for number in re.findall(r"Case(\d+)\.antt:\d+:\d+: error", done.stdout)})
     if (done.returncode == 0) == bool(found) or (not found and "logic=proved" not in done.stdout):
-        sys.exit(f"scratch: the checker's verdict is unclear; see {log.relative_to(ROOT)}")
+        sys.exit(f"scratch: the checker's verdict is unclear; see {log}")
     return found

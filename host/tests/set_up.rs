@@ -44,6 +44,7 @@ impl Project {
         }
         for tool in [
             "library.sh",
+            "programs.sh",
             "prebuilt.sh",
             "install.sh",
             "definition-check.mk",
@@ -52,6 +53,12 @@ impl Project {
         }
         project.write("crates.txt", "one\n");
         project.write("crates/one/src/lib.rt", "");
+        // What `make library` and `make programs` build, with what each program reads and prints.
+        project.write("crates/sorbrudder/src/lib.rt", "");
+        for program in ["everylist", "liftcount", "liftlists", "treelist"] {
+            project.write(&format!("crates/{program}/stdin"), "read\n");
+            project.write(&format!("crates/{program}/stdout"), "read\n");
+        }
         // What make and the tools call, and nothing else.
         std::fs::create_dir(project.folder.join("bin")).expect("a folder");
         for tool in TOOLS.split(' ') {
@@ -76,18 +83,16 @@ impl Project {
         std::fs::set_permissions(self.folder.join(path), executable).expect("a file");
     }
 
-    /// An rt that notes each call and writes a library, or the programs that it is to check.
+    /// An rt that notes each call, and writes the library or the program of the crate that it is called in, which it then runs.
     fn with_rt(&self) {
         let script = "\
-echo \"$*\" >> rt.log
-if [ \"$1\" = check ]; then
-    shift
-    mkdir -p target/bin
-    for name; do echo \"proved $name\" > \"target/bin/$name\"; done
-    exit
+echo \"$*\" >> ../../rt.log
+mkdir -p out
+if [ \"$1\" = run ]; then
+    echo \"proved ${PWD##*/}\" > \"out/${PWD##*/}\"
+    exec cat
 fi
-mkdir -p target/staticlib
-echo proved > target/staticlib/libsorbrudder.a
+echo proved > out/libsorbrudder.a
 ";
         self.script("bin/rt", script);
     }

@@ -90,6 +90,7 @@ last_of : {W : List ℕ} {head hi r : ℕ} {k : Token} {cs rest : Forest} → Li
 last_of {W} {head} {hi} {r} {k} {cs} {rest} v last = go v.bs v.chain v.rep
   where
     go : {X : List ℕ} {lo : ℕ} (bs : List ℕ) → Chain W head bs → RepF W X bs lo hi (node k cs rest) → LastTree W r hi k cs rest
+    go {X = X} {lo = lo} [] c q = elim q [ ]
     go (b ∷ bs) c q = rw (last.last b bs c) (last-tree head b bs k cs rest c q)
 
 -- ---- message 1 over several roots

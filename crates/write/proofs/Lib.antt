@@ -4,7 +4,6 @@ pub mod SpellLaws
 pub mod CaseLaws
 pub mod StepLaws
 pub mod SpineLaws
-pub mod ReaderLaws
 pub mod EntryLaws
 pub mod RootLaws
 pub mod StatementLaws

@@ -5,7 +5,6 @@ use Rattle.molang.specs.Operator.{is_bracket}
 use Rattle.write.specs.Seats.{is_paired}
 use Rattle.write.proofs.{CaseLaws.{operand-unspared, enclosed-spared}}
 use Rattle.write.proofs.plain.is_paired.Goals as goal
-use borrow.Enum.Refused.{opened}
 
 pub returns-in-LeftOfComma : goal.returns-in-LeftOfComma
 unfolding is_paired is_bracket
@@ -17,7 +16,7 @@ returns-in-RightOfQuestion c = rw (c.in-RightOfQuestion.is, ne_eqb _ 0 c.if-chil
 
 pub returns-in_default : goal.returns-in_default
 unfolding is_paired is_bracket
-returns-in_default c = rw (operand-unspared _ _ (opened c.in_default.in_default-own.keys4), ne_eqb _ 0 c.if-children-eq0.false, ne_eqb _ 4 c.if-op-eq-LEFT_PARENTHESIS.false)
+returns-in_default c = rw (operand-unspared _ _ c.in_default.in_default-own.keys4, ne_eqb _ 0 c.if-children-eq0.false, ne_eqb _ 4 c.if-op-eq-LEFT_PARENTHESIS.false)
 
 pub returns-then-children-eq0 : goal.returns-then-children-eq0
 returns-then-children-eq0 c =

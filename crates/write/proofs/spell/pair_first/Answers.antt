@@ -15,10 +15,9 @@ put_pair-requires c =
 pub returns-then-paired : goal.returns-then-paired
 returns-then-paired c =
     let has = sym c.has_pair-paired.ensures ∙ c.if-paired.true in
-    let parts = (c.has_pair-paired.ensures, rw has c.put_pair.ensures) in
-    record { value = parts.0; list_after = parts.1.0; to_after = parts.1.1 }
+    record { value = c.has_pair-paired.ensures; list_after = rw has c.put_pair.ensures.list_after; to_after = rw has c.put_pair.ensures.to_after }
 
 pub returns-else-paired : goal.returns-else-paired
 returns-else-paired c =
-    let parts = (c.has_pair-paired.ensures, rw (sym c.has_pair-paired.ensures ∙ c.if-paired.false) (refl, omega arith)) in
-    record { value = parts.0; list_after = parts.1.0; to_after = parts.1.1 }
+    let has = sym c.has_pair-paired.ensures ∙ c.if-paired.false in
+    record { value = c.has_pair-paired.ensures; list_after = rw has refl; to_after = rw has (omega arith) }

@@ -19,8 +19,9 @@ returns c =
     let front : c.front_of.result ≡ front_at c.args.words.now c.args.node =
     rw (← c.low-children.ensures, ← c.pair_first-paired.ensures.value) c.front_of.ensures in
     let here = get_or-drop c.args.node c.args.words.now in
-    let parts = (
-      ap (λ (n : ℕ). c.args.place - n) front,
-      (rw (here 1 0, here 2 0) c.widen.ensures, c.pair_first-paired.ensures.1),
-    ) in
-    record { value = parts.0; high_after = parts.1.0; list_after = parts.1.1.0; to_after = parts.1.1.1 }
+    record {
+      value = ap (λ (n : ℕ). c.args.place - n) front;
+      high_after = rw (here 1 0, here 2 0) c.widen.ensures;
+      list_after = c.pair_first-paired.ensures.list_after;
+      to_after = c.pair_first-paired.ensures.to_after;
+    }

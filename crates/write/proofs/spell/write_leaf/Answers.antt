@@ -20,18 +20,18 @@ put_token-requires c =
 pub put_closer-requires : goal.put_closer-requires
 put_closer-requires c =
     let put = c.put_token in
-    (node-long c.requires.0, none-closer c.requires.0 c.requires.1 put.new.1.0 put.new.1.1.0 put.ensures)
+    (node-long c.requires.0, none-closer c.requires.0 c.requires.1 put.new.list put.new.to (put.ensures.list_after, put.ensures.to_after))
 
 pub slice_bounds-result-end : goal.slice_bounds-result-end
 slice_bounds-result-end c =
-    sym (length-take-le node_length c.args.words.now (node-long c.pre.0))
+    sym (length-take-le node_length c.args.words.now (node-long c.requires.0))
 
 pub shape_of-list : goal.shape_of-list
 shape_of-list c =
     let put = c.put_token in
     let closes = c.put_closer in
-    none-length c.requires.0 c.requires.1 put.new.1.0 put.new.1.1.0 put.ensures
-    closes.new.1.0 closes.new.1.1.0 closes.ensures
+    none-length c.requires.0 c.requires.1 put.new.list put.new.to (put.ensures.list_after, put.ensures.to_after)
+    closes.new.list closes.new.to (closes.ensures.list_after, closes.ensures.to_after)
 
 pub returns : goal.returns
 returns c =
@@ -42,11 +42,10 @@ returns c =
     none-spans c.requires.0 first (seen c.widen.new.low c.widen.new.high) c.widen.ensures c.requires.1
     in
     let writes =
-    none-writes c.requires.0 c.requires.1 put.new.1.0 put.new.1.1.0 put.ensures
-    closes.new.1.0 closes.new.1.1.0 closes.ensures
+    none-writes c.requires.0 c.requires.1 put.new.list put.new.to (put.ensures.list_after, put.ensures.to_after)
+    closes.new.list closes.new.to (closes.ensures.list_after, closes.ensures.to_after)
     in
-    let parts = (spans, writes) in
-    record { high_after = parts.0; result_value = parts.1.0; list_after = parts.1.1.0; to_after = parts.1.1.1 }
+    record { high_after = spans; result_value = writes.0; list_after = writes.1.0; to_after = writes.1.1 }
 
 pub bounds-words-1 : goal.bounds-words-1
 bounds-words-1 c =

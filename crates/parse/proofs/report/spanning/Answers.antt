@@ -1,0 +1,7 @@
+-- `parse::report::spanning` meets its contract. Assumes nothing.
+use borrow.Author.Rules.{rules}
+use Rattle.parse.proofs.report.spanning.Goals as goal
+
+pub returns : goal.returns
+returns c =
+    cc

@@ -1,0 +1,15 @@
+#!/usr/bin/env bash
+# Puts the proved programs into target/bin.
+#   programs.sh             proves and builds them, and runs each on its own input, called by `make programs`; what is proved already is not
+#                           proved again
+#   programs.sh --after-ci  takes them as `rt ci` has just proved, built and run them (the gate)
+set -eu
+cd "$(dirname "$0")/.."
+
+mkdir -p target/bin
+for program in everylist liftcount liftlists treelist; do
+    if [ "${1:-}" != --after-ci ]; then
+        (cd "crates/$program" && rt run <stdin | cmp - stdout)
+    fi
+    cp "crates/$program/out/$program" "target/bin/$program"
+done
