@@ -1,7 +1,6 @@
 -- `sorbrudder::parsed_number` meets its contract, case by case. Assumes nothing.
 use mathlib.Core.Path.{sym, ap, subst, ◌∙◌}
 use native.Mathlib.{Nat.{zero-add}, Omega.{arith}}
-use borrow.Author.Rules.{rules}
 use Rattle.molang.specs.Parse.{Told}
 use Rattle.parse.specs.{Answers.{told_of}, declared.Answer.{Answer}}
 use Rattle.sorbrudder.specs.Numbers.{told_number, FitsTold}

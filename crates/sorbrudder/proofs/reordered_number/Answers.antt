@@ -1,7 +1,6 @@
 -- `sorbrudder::reordered_number` meets its contract, case by case. Assumes nothing.
 use mathlib.Core.Path.{sym, ap, subst, ◌∙◌}
 use native.Mathlib.Nat.{zero-add}
-use borrow.Author.Rules.{rules}
 use Rattle.molang.specs.StackOrder.{ReorderTold}
 use Rattle.stackorder.specs.{Answers.{told_of}, declared.Reordered.{Reordered}}
 use Rattle.sorbrudder.specs.Numbers.{reorder_number, FitsReordered}

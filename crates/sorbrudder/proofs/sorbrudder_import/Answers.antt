@@ -1,6 +1,5 @@
 -- `sorbrudder::sorbrudder_import` meets its contract: what `import` promises, with the answer's number. Assumes nothing.
 use mathlib.Core.Path.{sym, ap, subst, ◌∙◌}
-use borrow.Author.Rules.{rules}
 use Rattle.molang.specs.StackOrder.{ReorderTold}
 use Rattle.stackorder.specs.Answers.{call}
 use Rattle.sorbrudder.specs.Numbers.{reorder_number, FitsReordered}

@@ -1,6 +1,5 @@
 -- `sorbrudder::sorbrudder_write` meets its contract: what `write` promises, with the answer's number. Assumes nothing.
 use mathlib.Core.Path.{sym, ap, subst, ◌∙◌}
-use borrow.Author.Rules.{rules}
 use Rattle.molang.specs.WriteEntry.{WriteTold}
 use Rattle.write.specs.Answers.{call}
 use Rattle.sorbrudder.specs.Numbers.{write_number, FitsWritten}

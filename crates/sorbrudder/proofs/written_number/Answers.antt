@@ -1,7 +1,6 @@
 -- `sorbrudder::written_number` meets its contract, case by case. Assumes nothing.
 use mathlib.Core.Path.{sym, ap, subst, ◌∙◌}
 use native.Mathlib.Nat.{zero-add}
-use borrow.Author.Rules.{rules}
 use Rattle.molang.specs.WriteEntry.{WriteTold}
 use Rattle.write.specs.{Answers.{told_of}, declared.Written.{Written}}
 use Rattle.sorbrudder.specs.Numbers.{write_number, FitsWritten}

@@ -1,7 +1,6 @@
 -- `sorbrudder::holding::sorbrudder_open` meets its contract: what `open_list` promises, with the answer's number. Assumes nothing.
 use mathlib.Core.Path.{sym, subst}
 use mir.Facts.{to_z-of_z}
-use borrow.Author.Rules.{rules}
 use Rattle.molang.specs.Parse.{Told}
 use Rattle.held.{specs.Held.{Lent}, specs.Answers.{lent, HasOpened}, proofs.Running.{open_told}}
 use Rattle.sorbrudder.specs.Numbers.{FitsTold}

@@ -1,9 +1,7 @@
 -- `sorbrudder::lifting::lifted_number` meets its contract, case by case. Assumes nothing.
-use Prim.Native.Nat.{◌^◌, ◌<◌}
 use mathlib.Core.Path.{◌≡◌, sym, ap, subst, ◌∙◌}
 use native.Mathlib.{Nat.{zero-add}, Omega.{arith}}
-use borrow.Author.Rules.{rules}
-use Rattle.lift.specs.{Entry.{LotTold, lot_told}, declared.entry.Lot.{Lot}}
+use Rattle.lift.specs.{Entry.{lot_told}, declared.entry.Lot.{Lot}}
 use Rattle.sorbrudder.specs.Lifting.{lot_number, FitsLot}
 use Rattle.sorbrudder.proofs.lifting.lifted_number.Goals as goal
 use Rattle.sorbrudder.proofs.lifting.lifted_number.Lts as lts

@@ -1,7 +1,6 @@
 -- `sorbrudder::ruled::sorbrudder_parse_rules` meets its contract: what `parse_ruled` promises, with the answer's number. Assumes nothing.
 use mathlib.Core.Path.{sym, ap, subst, ◌∙◌}
 use mir.Facts.{to_z-of_z}
-use borrow.Author.Rules.{rules}
 use Rattle.molang.specs.Parse.{Told}
 use Rattle.sorbrudder.specs.Numbers.{told_number, FitsTold}
 use Rattle.sorbrudder.proofs.{Bounds.{ruled-fits}}
