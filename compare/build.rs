@@ -48,7 +48,7 @@ fn find_library() {
     }
 }
 
-/// At the environment variable of its name in capitals, or where `rt check` writes it.
+/// At the environment variable of its name in capitals, or where `make programs` puts it.
 fn find_program(name: &str) {
     let named = name.to_uppercase();
     println!("cargo::rustc-check-cfg=cfg({name})");

@@ -36,10 +36,10 @@
  * number that a call can change is lent as a pointer to it, and the same holds of it.
  *
  * Threads. The functions keep nothing between calls and have no state of their own: any number of threads may call them at once, each with
- * buffers of its own. The call stack is the caller's to provide, and the proofs say nothing of it: measured, reading takes at most 2 KiB,
- * writing, and the lift, which writes, at most 256 KiB, export and import at most 1 KiB; of an open list opening takes at most 2 KiB,
- * asking and committing at most 84 KiB, since they put the new list together there, and a version change nothing worth naming
- * (docs/notes/host.md).
+ * buffers of its own. The call stack is the caller's to provide, and the proofs say nothing of it: measured, with the library as an older
+ * kit built it, reading takes at most 2 KiB, writing, and the lift, which writes, at most 256 KiB, export and import at most 1 KiB; of an
+ * open list opening takes at most 2 KiB, asking and committing at most 84 KiB, since they put the new list together there, and a version
+ * change nothing worth naming (docs/notes/host.md).
  *
  * An answer is one number. Bits 0-31: the count of nodes, tokens or messages, or a refusal's place. Bits 32-39: a refusal's number, else 0.
  * Bits 40-47: 0 for a tree, in either order, a written list, a list that stays as it is or a changed version, 1 for messages, 2 for a

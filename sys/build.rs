@@ -1,5 +1,5 @@
-//! Finds the proved static library and links it where it is there: in the folder that `SORBRUDDER_LIB` names; else where `rt staticlib
-//! sorbrudder` writes it, or the prebuilt one for this target. The build scripts of the crates above read the archive's path as
+//! Finds the proved static library and links it where it is there: in the folder that `SORBRUDDER_LIB` names; else where `make
+//! library` puts it, or the prebuilt one for this target. The build scripts of the crates above read the archive's path as
 //! `DEP_SORBRUDDER_ARCHIVE`, whether it is there as `DEP_SORBRUDDER_FOUND` (`true` or `false`), and what to do where it is not as
 //! `DEP_SORBRUDDER_ADVICE`, since each has its own answer to a library that is not built yet. A second archive, in the folder that
 //! `SORBRUDDER_BEFORE` names, is linked with its entries renamed, and `DEP_SORBRUDDER_BEFORE` says so; one of which it is not known what

@@ -153,7 +153,7 @@ passes on what it is handed; which line is written to standard error.
 - `prebuilt/`: the gate compares it byte for byte with what it proves and builds.
 - The call stack, which the caller provides (`docs/notes/host.md`).
 """
-TOKEN = re.compile(r"[^\s(){}\[\],;|λ↦⌜⌝]+")
+TOKEN = re.compile(r"[^\s(){}\[\],;|λ↦]+")
 
 
 def stop(why):

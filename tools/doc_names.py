@@ -24,10 +24,10 @@ ROOT = Path(__file__).resolve().parent.parent
 DOCUMENTS = ["README.md", "CONTRIBUTING.md", "docs/ARCHITECTURE.md", "docs/DECISIONS.md", "docs/PROOF.md"]
 DOCUMENTS += [f"docs/{name}.md" for name in ["AUTHOR", "KEEPER", "TEACHER", "GRAMMAR", "DIFFERENCES", "FORMAT", "SHARDS"]]
 PLACED = "docs/PROOF.md"
-# Names that stand for others, and what the checker names in the example of CONTRIBUTING.md.
+# Names that stand for others, and a flag of the kit in CONTRIBUTING.md.
 PATTERNS = {"CanX", "Xed", "HasX", "XTo", "xOf", "xAt", "NameLaws", "NAMELaws"}
 PATTERNS |= {"Module.name", "crate/Module.name", "crate::function", "crate/name"}
-PATTERNS |= {"After-loop", "After-higher", "higher2", "After-shared-slice-known2"}
+PATTERNS |= {"if-x", "allow-holes"}
 # Words of the Rust, of a format and of the system, which no file here has.
 PATTERNS |= {"is_math_function", "FFFFFFFF", "EDB88320", "START-END", "sorbrudder-PID-N", "ssh"}
 WORD = re.compile(r"[A-Za-z][\w·]*(?:-[\w·]+)*")

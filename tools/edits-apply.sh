@@ -18,7 +18,7 @@ for folder in edits/*; do
     name=${folder#edits/}
     if [ ! -d "$folder" ]; then
         fault "$folder is no folder"
-    elif ! grep -q "^$name:" crates.txt; then
+    elif ! grep -Eq "^$name( +staticlib)?:" crates.txt; then
         fault "$folder: crates.txt has no crate '$name'"
     fi
 done

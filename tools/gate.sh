@@ -1,7 +1,7 @@
 #!/usr/bin/env bash
-# The gate, called by `make test`: sees that every must-fail edit applies and every public function has two, runs `rt ci`, which proves every
-# crate, tries the must-fail edits, runs the programs and checks the layout of all that is proved, builds the library, runs the Rust tests and
-# checks their layout.
+# The gate, called by `make test`: sees that every must-fail edit applies and every public function has two, runs `rt ci`, which proves
+# every crate, tries the must-fail edits, runs the programs and checks the layout of all that is proved, builds the library, runs the Rust
+# tests and checks their layout.
 # Its last line is 'N passed, M failed'; the exit status is 0 only where M is 0.
 set -u
 cd "$(dirname "$0")/.." || exit 1
@@ -103,8 +103,8 @@ after=--after-ci
 
 prove
 
-# The library that the Rust crates link, and the programs that they run. Where it is not built, the host crate does not build either, and its
-# tests count as failed.
+# The library that the Rust crates link, and the programs that they run. Where it is not built, the host crate does not build either, and
+# its tests count as failed.
 step "the static library" tools/library.sh $after
 step "the programs" tools/programs.sh --after-ci
 step "the prebuilt library and programs are those that are proved here" tools/prebuilt.sh --check

@@ -57,7 +57,7 @@ for program in $programs; do
     if [ -f "$from" ]; then
         install -D -m 755 "$from" "$to/bin/$program"
     else
-        echo "make install: there is no $program for this system; \`rt check $program\` proves and builds it" >&2
+        echo "make install: there is no $program for this system; \`make programs\` proves and builds it" >&2
     fi
 done
 install -D -m 644 "$library" "$to/lib/libsorbrudder.a"

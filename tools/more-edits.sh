@@ -1,7 +1,7 @@
 #!/usr/bin/env bash
-# Tries the must-fail edits of edits/, which the gate leaves out for their time, in a copy of the repository's last commit; the checks there
-# begin with what those of this checkout kept. It first sees that every edit applies. Arguments are crates; without any, all. The exit status
-# is 0 where there are edits and each is refused.
+# Tries the must-fail edits of edits/, which the gate leaves out for their time, in a copy of the repository's last commit; the checks
+# there begin with what those of this checkout kept. It first sees that every edit applies. Arguments are crates; without any, all. The exit
+# status is 0 where there are edits and each is refused.
 set -eu
 cd "$(dirname "$0")/.."
 copy=$(mktemp -d)

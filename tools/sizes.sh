@@ -4,7 +4,7 @@
 set -eu
 cd "$(dirname "$0")/.."
 lines() { find "crates/$1/$2" -name "*.$3" -exec cat {} + 2>/dev/null | grep -cvE '^[[:space:]]*(--|//|$)' || true; }
-for crate in $(sed -n 's/^\([a-z0-9_]*\):.*/\1/p' crates.txt); do
+for crate in $(sed -nE 's/^([a-z0-9_]+)( +staticlib)?:.*/\1/p' crates.txt); do
     echo "$crate $(lines "$crate" src rt) $(lines "$crate" specs antt) $(lines "$crate" proofs antt)"
 done | awk '
     function row(name, code, specs, proofs) { printf "%-12s %8d %8d %8d %8s\n", name, code, specs, proofs, code ? sprintf("%.2f", proofs / code) : "" }

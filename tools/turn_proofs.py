@@ -234,6 +234,9 @@ def unbracket(term):
 # Functions whose goals name a place itself, and no view of it.
 FLAT = set(os.environ.get("FLAT", "").split(","))
 
+# Names of parameters that the older proofs wrote with dashes.
+HYPHENS = "source-length-again|source-length|limit-again|version-again|used-low|used-high|limit-to|limit-from|comparisons-first"
+
 TRIVIAL = re.compile(r"^(?:search (?:needs|rules)|omega arith|tt)$")
 
 
@@ -374,6 +377,7 @@ def turn_paths(text, fields, settled):
                         return head + "." + new + rest[len(want) :]
         return m.group(0)
 
+    text = re.sub(r"\.(%s)(?![\w-])" % HYPHENS, lambda m: "." + m.group(1).replace("-", "_"), text)
     text = re.sub(r"\.(well-formed|type-inv)(?![\w-])", lambda m: "." + m.group(1).replace("-", "_"), text)
     text = re.sub(r"(?:\.before)+(?=\.(?!before(?![\w-]))[A-Za-z])", "", text)
     return re.sub(r"(?<!args)\.(%s)((?:\.(?:%s|[0-9]+))*)(?![\w'-])" % (IDENT, IDENT), one, text)

@@ -72,7 +72,7 @@ def used_by(function, code):
         reached.append(part)
         words = set(re.findall(r"\w+", re.sub(r"//.*", "", part.body or part.text)))
         for other in code:
-            near = other.path == part.path or re.search(rf"use crate::(\w+::)*{other.name};", part.path.read_text())
+            near = other.path == part.path or re.search(rf"^use crate::[^;]*\b{other.name}\b", part.path.read_text(), re.M)
             if other.name in words and near and other not in reached + left and not other.promises():
                 left.append(other)
     return reached
@@ -84,7 +84,7 @@ def main():
         code, definitions = list(code_of(crate)), list(definitions_of(crate))
         mark(crate, code + definitions)
         for function in filter(Part.promises, code):
-            named = set(re.split(r"[\s(){},.;⌜⌝]+", function.contract.partition("\n")[2]))
+            named = set(re.split(r"[\s(){},.;]+", function.contract.partition("\n")[2]))
             parts = used_by(function, code) + [part for part in definitions if part.name in named]
             if len(edits := set().union(*(part.edits for part in parts))) < 2:
                 short.append(f"{function.path.relative_to(ROOT)}: {function.name}: {len(edits)}")

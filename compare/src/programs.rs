@@ -1,4 +1,4 @@
-//! The programs, run as a person runs them: where `rt check` builds them (`target/bin`), or where the environment variable of their name in
+//! The programs, run as a person runs them: where `make programs` puts them (`target/bin`), or where the environment variable of their name in
 //! capitals says.
 
 use std::env;
@@ -37,7 +37,7 @@ impl Program {
     pub fn built(name: &str, done: &str) -> Option<Self> {
         let program = Self::named(name);
         if !program.path.is_file() {
-            println!("{name} is not built, and was not {done}; run: rt check {name}");
+            println!("{name} is not built, and was not {done}; run: make programs");
             return None;
         }
         Some(program)

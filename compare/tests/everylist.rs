@@ -1,5 +1,5 @@
 //! The program `everylist` (card 9): the whole of what it prints for four alphabets at three versions beside the Rust, its refusals in their
-//! order, and mistakes that these inputs find. It is run where `rt check` builds it (`target/bin/everylist`), or at `EVERYLIST`; where it is
+//! order, and mistakes that these inputs find. It is run where `make` puts it (`target/bin/everylist`), or at `EVERYLIST`; where it is
 //! not built, what needs it is ignored, and so is what needs the Rust where that is not at hand.
 
 use compare::everylist::{Asked, every_list, head, list_text, printed};

@@ -1,5 +1,5 @@
-//! The programs if reading or writing fails: nothing more is printed, and a line on standard error says so. Each is run where `rt check`
-//! builds it (`target/bin`), or where the environment variable of its name in capitals says; where it is not built, the tests are ignored.
+//! The programs if reading or writing fails: nothing more is printed, and a line on standard error says so. Each is run where `make`
+//! puts it (`target/bin`), or where the environment variable of its name in capitals says; where it is not built, the tests are ignored.
 
 use compare::everylist::Asked;
 use compare::listing::{bytes, tokens, version_word};

@@ -1,5 +1,5 @@
 //! The program `liftcount` (card 10): what it counts of random archives beside the Rust, its refusals in their order, inputs of any length
-//! and in any pieces, and mistakes that these find. It is run where `rt check` builds it (`target/bin/liftcount`), or at `LIFTCOUNT`; where
+//! and in any pieces, and mistakes that these find. It is run where `make` puts it (`target/bin/liftcount`), or at `LIFTCOUNT`; where
 //! it is not built, what needs it is ignored, and so is what needs the Rust where that is not at hand.
 
 use compare::lift_archives::Archives;

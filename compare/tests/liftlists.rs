@@ -1,6 +1,6 @@
 //! The program `liftlists`: the bytes that it writes beside the model's, of random archives, of inputs that end behind any byte or come in
 //! any pieces, of lists up to the most tokens and over them, of files of several chunks; and mistakes that these find. It is run where
-//! `rt check` builds it (`target/bin/liftlists`), or at `LIFTLISTS`; where it is not built, what runs it is ignored. Without the static
+//! `make` puts it (`target/bin/liftlists`), or at `LIFTLISTS`; where it is not built, what runs it is ignored. Without the static
 //! library nothing of this is built.
 #![cfg(library)]
 

@@ -1,5 +1,5 @@
 //! The program `treelist` on many inputs: its refusals in their order, inputs of any length, trees, messages, and the answers
-//! that are kept in the repository. It is run where `rt check` builds it (`target/bin/treelist`), or at `TREELIST`; where it is
+//! that are kept in the repository. It is run where `make` puts it (`target/bin/treelist`), or at `TREELIST`; where it is
 //! not built, the tests are ignored.
 
 use compare::listing::{bytes, refused, text, tokens, version_word};

@@ -1,5 +1,5 @@
-//! `sorbrudder diff` and the program `liftcount` (card 10) come to the same counts of the same lists. The program is run where `rt check`
-//! builds it (`target/bin/liftcount`), or at `LIFTCOUNT`; where it is not built, the tests are left out, and say so.
+//! `sorbrudder diff` and the program `liftcount` (card 10) come to the same counts of the same lists. The program is run where `make`
+//! puts it (`target/bin/liftcount`), or at `LIFTCOUNT`; where it is not built, the tests are left out, and say so.
 
 mod common;
 

@@ -1,5 +1,5 @@
-//! `sorbrudder lift --plain` and the program `liftlists` write the same bytes for the same plain file. The program is run where `rt check`
-//! builds it (`target/bin/liftlists`), or at `LIFTLISTS`; where it is not built, the tests are left out, and say so.
+//! `sorbrudder lift --plain` and the program `liftlists` write the same bytes for the same plain file. The program is run where `make`
+//! puts it (`target/bin/liftlists`), or at `LIFTLISTS`; where it is not built, the tests are left out, and say so.
 
 mod common;
 

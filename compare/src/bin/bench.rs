@@ -13,7 +13,7 @@
 
 #[cfg(not(library))]
 fn main() -> std::process::ExitCode {
-    eprintln!("bench: the static library is not built; run: rt staticlib sorbrudder");
+    eprintln!("bench: the static library is not built; run: make library");
     std::process::ExitCode::FAILURE
 }
 

@@ -11,7 +11,7 @@ use std::process::ExitCode;
 
 #[cfg(not(library))]
 fn main() -> ExitCode {
-    eprintln!("compare: the static library is not built; run: rt staticlib sorbrudder");
+    eprintln!("compare: the static library is not built; run: make library");
     ExitCode::FAILURE
 }
 

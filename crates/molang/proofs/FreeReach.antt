@@ -1,13 +1,13 @@
 -- HOW FAR ONE NAME CAN REACH, by the answer alone (document 02, card 6): the card asks for one version, used set and source length, and
 -- neither for one limit nor for buffers that hold the same. So the words that are the answer's are compared, and not whole buffers.
 use Prim.Native.Nat.{ℕ, zero, suc, ◌*◌, ◌^◌}
-use mathlib.Core.{Path.{◌≡◌, refl, ap, sym, ◌∙◌}, List.{List, [], ◌∷◌, ◌++◌, append-nil}, Option.{Option, none, some}}
+use mathlib.Core.{Path.{◌≡◌, refl, ap, sym, ◌∙◌}, List.{List, [], append-nil}, Option.{Option, none, some}}
 use lib.{ListN.{length, take, drop, replicate}, IntN.{pos}}
 use native.Mathlib.Omega.{arith}
 use Rattle.molang.specs.Operator
 use Rattle.molang.specs.{Forest.{Token, Forest, nil, node, size}, Read.{Answer, tree, messages}, Order.{rules}, Left.{Left, left}}
 use Rattle.molang.specs.Words.{Refusal, token_words, node_words_of, tokens_of, tree_words, list_words}
-use Rattle.molang.specs.Parse.{Call, refusal, reading, record_words, told, in_halves, in_front, tree_in, messages_in}
+use Rattle.molang.specs.Parse.{Call, reading, record_words, told, in_halves, in_front, tree_in, messages_in}
 use Rattle.molang.specs.{Rules.{rules_of, rules_for}, Payloads.{PayloadApart, one_payload, nodes_told, records_told, tokens_told, with_tree}}
 use Rattle.molang.specs.Payloads.{AtOne, FreeReach, FreeWriteReach}
 use Rattle.molang.specs.WriteEntry.{trees_of, WriteCall, write_refusal, written_tokens, tokens, write_told, write_answered, list_in}

@@ -2,17 +2,17 @@
 -- of them children, moves one behind another, or makes or drops one. The same of writing: its tokens are the tree's nodes.
 use Prim.Native.Nat.{ℕ, suc, ◌+◌}
 use mathlib.Core.{Path.{◌≡◌, refl, sym, ap, subst, ◌∙◌}, Bool.{Bool, true, false, ◌||◌, ◌&&◌, true≢false, false≢true}}
-use mathlib.Core.{List.{List, [], ◌∷◌, ◌++◌}, Option.{Option, none, some, get_or}}
+use mathlib.Core.{List.{List, [], ◌∷◌}, Option.{Option, none, get_or}}
 use native.Mathlib.Omega.{arith}
 use lib.{Dec.{eqb, leb}, IntN.{ℤ}}
 use borrow.Author.Tests.{eqb-true, ne_eqb, leb-true}
 use Rattle.molang.specs.Operator
 use Rattle.molang.specs.Operator.{is_host, between, is_one_of, any, is_bracket, closing_of, is_closer, is_math_call, is_query_or_loop}
 use Rattle.molang.specs.Forest.{Token, Forest, nil, node, renamed, bare, closed_by, unclosed, leaves, turned_onto, in_order, size}
-use Rattle.molang.specs.{Message.{Message, Result, ok, fail, closer}, Calls.{query_or_loop, math, calls, is_index}}
+use Rattle.molang.specs.{Message.{Message, Result, closer}, Calls.{calls, is_index}}
 use Rattle.molang.specs.{Statements.{split_of, after}, Free.{is_prefix, is_conditional, is_return, tokens_only, flat, works_on}}
 use Rattle.molang.specs.Order.{rules, Pass, last_token, member_accessors, sectioning, call_pass, statements, arrays, pointer, math_calls}
-use Rattle.molang.specs.Order.{unary_minus_and_not, addition, conditional, returns, binary, order, runs, apply}
+use Rattle.molang.specs.Order.{unary_minus_and_not, addition, conditional, returns, binary, order, apply}
 use Rattle.molang.specs.Read.{Answer, tree, messages, rooted, ends_reading, grouped, read}
 use Rattle.molang.specs.{Hosts.{is_this_or_host, host_before, host_tokens, host_nodes}, Weight.{weight, node_weight}}
 use Rattle.molang.specs.Plain.{Seat, at_root, under_semicolon, is_right_of_question, is_under_semicolon, seat_under, is_plain_binary}

@@ -1,8 +1,8 @@
 -- A list with hosts reads as it does with 76 in their stead, their numbers kept in the tree (specs/Hosts): first reading and what its
 -- answer tells, then the words, then the parse entry.
 use Prim.Native.Nat.{ℕ, suc, ◌+◌, ◌-◌, ◌*◌, ◌/◌, ◌%◌, ◌^◌, ◌≤◌, ◌<◌}
-use mathlib.Core.{Path.{◌≡◌, refl, ap, subst, ◌∙◌, sym}, Bool.{Bool, true, false, ◌&&◌, ◌||◌, true≢false, or-true, and-false}}
-use mathlib.Core.{List.{List, [], ◌∷◌, ◌++◌, map, map-append}, Option.{Option, none, some, get_or}}
+use mathlib.Core.{Path.{◌≡◌, refl, ap, subst, ◌∙◌, sym}, Bool.{Bool, true, false, ◌&&◌, ◌||◌, or-true, and-false}}
+use mathlib.Core.{List.{List, [], ◌∷◌, ◌++◌, map, map-append}, Option.{Option, none, some}}
 use native.Mathlib.Omega.{arith}
 use lib.{Dec.{eqb, leb, ltb}, IntN.{ℤ}, ListN.{length, take, length-map}}
 use borrow.Author.Tests.{eqb-true, ne_eqb, leb-true, lt-ltb, le-ltb, ltb-true, ltb-false}
@@ -18,8 +18,8 @@ use Rattle.molang.specs.Words.{word, kind_of, low_of, operator_bits, number_in, 
 use Rattle.molang.specs.Words.{Field, operator_field, start_field, end_field, upper_field, lower_field, count_field, close_field, field_kind}
 use Rattle.molang.specs.Words.{low_fault, word_fault, variant_after, next_in_token, Refusal, words_refusal}
 use Rattle.molang.specs.{Legal.{Legal, LegalTrees, no_trees, legal_tree}, Nesting.{open_after, first_above, too_deep}}
-use Rattle.molang.specs.Parse.{Call, length_rows, value_rows, refusal, reading, record_words, a_tree, some_messages, told, answered}
-use Rattle.molang.specs.Parse.{in_front, tree_in, tree_after, messages_in, messages_after, work_in, work_after}
+use Rattle.molang.specs.Parse.{Call, length_rows, value_rows, refusal, reading, record_words, a_tree, some_messages, told}
+use Rattle.molang.specs.Parse.{in_front, tree_in, messages_in, work_in}
 use Rattle.molang.specs.Hosts.{is_host_word, with_this_word, hostless, tree_told, is_this_or_host, host_before, host_tokens, host_nodes}
 use Rattle.molang.specs.{Hosts.{ReadsAsThis, WritesHosts}, Write.{spanning}, WriteEntry.{WriteCall, write_refusal, written_tokens}}
 use Rattle.molang.specs.Rules.{rule_of, with_rule_number, unruled, with_rule, ruled, ruling, rules_in, copied, rules_of, rule_refusal}

@@ -7,7 +7,6 @@ use mathlib.Core.Option.{Option, none, some}
 use native.Mathlib.Omega.{arith}
 use lib.{Dec.{eqb, leb}, IntN.{ℤ}, ListN.{length}}
 use borrow.Author.Tests.{eqb-true, eq-eqb, leb-true, le-leb}
-use Rattle.molang.specs.Operator
 use Rattle.molang.specs.{Forest.{Token, Forest, nil, node, leaves}, Read.{Answer, tree, messages, read, highest_end, uses}}
 use Rattle.molang.specs.Words.{Refusal, row, operator_field, words_refusal, tokens_of, list_words, tree_words}
 use Rattle.molang.specs.{Nesting.{too_deep}, Parse.{most_tokens, is_limit}, Plain.{unplain_at}, Write.{written_tree}, WriteEntry.{trees_of}}

@@ -8,7 +8,7 @@ use borrow.Author.Tests.{eqb-true, leb-true}
 use Rattle.molang.specs.{Read.{Answer, tree, messages}, FirstFailure.{must, first_of}, Nesting.{too_deep}}
 use Rattle.molang.specs.Words.{Refusal, row, with_number, operator_field, words_refusal, tokens_of}
 use Rattle.molang.specs.Parse.{Call, most_tokens, is_limit, length_rows, value_rows, refusal, reading, refused, told}
-use Rattle.molang.specs.{Rules.{rule_refusal}, Left.{Left, left}, Limits.{FirstDeep, with_limit, LimitOnly}}
+use Rattle.molang.specs.{Rules.{rule_refusal}, Left.{Left, left}, Limits.{with_limit, LimitOnly}}
 use Rattle.molang.proofs.{Trees.{some-none}, Nesting.{never-18, first-deep}, Left.{comes_to, rules_left, left-comes}}
 use Rattle.molang.proofs.FirstFailure.{first-none, then-none, passed, passes, all-passed, in_parts, without-number, All, all_first}
 use Rattle.molang.proofs.{FirstFailure.{all-last, all-must}, ListWords.{tokens-count}, Refusals.{Within, words-within}}

@@ -4,7 +4,7 @@ use Prim.Native.Nat.{ℕ, suc, ◌*◌, ◌%◌, ◌≤◌}
 use mathlib.Core.{Path.{◌≡◌, refl, ap, sym, ◌∙◌}, List.{List, [], ◌∷◌}, Option.{Option, none, some}}
 use native.Mathlib.Omega.{arith}
 use lib.ListN.{length, drop, length-map}
-use Rattle.molang.specs.{Forest.{Token, Forest, nil, node, size}, Message.{Message}, Read.{Answer, tree, messages, uses}}
+use Rattle.molang.specs.{Forest.{Token, Forest, nil, node, size}, Message.{Message}, Read.{Answer, tree, uses}}
 use Rattle.molang.specs.{Words.{Refusal, operator_field, words_refusal, tokens_of}, Legal.{LegalTrees}, Nesting.{first_above, too_deep}}
 use Rattle.molang.specs.Parse.{Call, length_rows, value_rows, refusal, reading, record_words, a_tree, some_messages, told, answered}
 use Rattle.molang.specs.Parse.{in_front, tree_in, tree_after, messages_in, messages_after, work_after}

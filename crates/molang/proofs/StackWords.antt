@@ -7,8 +7,8 @@ use native.Mathlib.Omega.{arith}
 use lib.Dec.{leb}
 use borrow.Author.Tests.{eqb-true, le-leb}
 use Rattle.molang.specs.Forest.{Token, Forest, nil, node, turned_onto, in_order, count, size}
-use Rattle.molang.specs.Words.{low_of, node_of, token_words, node_words_of, Field, operator_field, start_field, end_field, upper_field}
-use Rattle.molang.specs.Words.{lower_field, count_field, close_field, word_fault, variant_after}
+use Rattle.molang.specs.Words.{low_of, node_of, token_words, node_words_of, Field, operator_field}
+use Rattle.molang.specs.Words.{count_field, word_fault, variant_after}
 use Rattle.molang.specs.{Legal.{Legal, LegalTrees, no_trees, legal_tree}, FirstFailure.{must, first_of}}
 use Rattle.molang.specs.WriteEntry.{most_nodes, next_in_node}
 use Rattle.molang.specs.StackOrder.{stack_words, Stack, stack_after, trees_asked, least_nodes, stack_continues, is_one_stack, stack_fault}

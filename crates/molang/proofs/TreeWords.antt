@@ -6,8 +6,8 @@ use native.Mathlib.Omega.{arith}
 use lib.Dec.{leb}
 use borrow.Author.Tests.{eqb-true, eq-eqb}
 use Rattle.molang.specs.Forest.{Token, Forest, nil, node, count, size}
-use Rattle.molang.specs.Words.{low_of, node_of, token_words, node_words_of, tree_words, Field, operator_field, start_field, end_field}
-use Rattle.molang.specs.Words.{upper_field, lower_field, count_field, close_field, word_fault, variant_after}
+use Rattle.molang.specs.Words.{low_of, node_of, token_words, node_words_of, tree_words, Field, operator_field}
+use Rattle.molang.specs.Words.{word_fault, variant_after}
 use Rattle.molang.specs.{Legal.{Legal, LegalTrees, no_trees, legal_tree}, FirstFailure.{must, first_of}}
 use Rattle.molang.specs.{WriteEntry.{most_nodes, next_in_node, Shape, shape_after, continues, is_whole, tree_fault}, StackOrder.{IsOneTree}}
 use Rattle.molang.proofs.{Trees.{count-size}, Booleans.{false-true}, FirstFailure.{must-true}, Words.{low_word, beside}}

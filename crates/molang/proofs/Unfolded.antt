@@ -2,16 +2,16 @@
 -- the definition fails at its first such leaf. Both give the same of every list: after a level its operator leaves stand only as last child
 -- of its operator nodes, a tree is marked exactly if it holds one, and a walk over its children ends in message 12 at the first of them.
 use Prim.Native.Nat.{ℕ, zero, suc}
-use mathlib.Core.{Path.{◌≡◌, refl, sym, ap, ◌∙◌}, Bool.{Bool, true, false, ◌&&◌, ◌||◌, not, true≢false, false≢true, or-true, or-false}, List.{List, [], ◌∷◌}}
+use mathlib.Core.{Path.{◌≡◌, refl, sym, ap, ◌∙◌}, Bool.{Bool, true, false, ◌&&◌, ◌||◌, not, true≢false, false≢true, or-false}, List.{List, [], ◌∷◌}}
 use mathlib.Core.Option.{Option, none, some}
 use borrow.Author.Tests.{not-true}
 use Rattle.molang.specs.{Operator.{is_one_of}, Forest.{Token, Forest, nil, node, turned_onto, in_order}}
 use Rattle.molang.specs.Message.{binary_at_end, Result, ok, fail}
-use Rattle.molang.specs.Level.{Step, stop, on, into, Level, walk, through, Gathered, gathered, waiting, nothing}
+use Rattle.molang.specs.Level.{Step, walk, through, Gathered, gathered, waiting, nothing}
 use Rattle.molang.specs.Binary.{first_leaf, unfolded, joined, operator_after, binary_step, binary_resume, binary_finish, binary_level}
 use Rattle.molang.specs.{Free.{free, is_nil}, Marked.{MarkedResult, given, told, without_mark, is_any_marked, left_again, walk_marked, through_marked}}
 use Rattle.molang.proofs.Trees.{decided, maybe, some-none, and-true-true, free-leaf, free-tree}
-use Rattle.molang.proofs.Walks.{failed, fine, Ends, Onward, stops, goes, enters, Keeps, back, onward, walk-keeps}
+use Rattle.molang.proofs.Walks.{failed, fine, Ends, Onward, stops, goes, enters, Keeps, back, walk-keeps}
 use Rattle.molang.proofs.{Weight.{is_nil-in_order}, Binary.{full-joined}}
 
 first-of-two : {A : Type 0} (o x : Option A) → ◌≡◌ {A = Option A} (elim o [ some t ↦ some t | none ↦ x ]) none → (o ≡ none) × (x ≡ none)

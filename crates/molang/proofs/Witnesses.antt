@@ -2,13 +2,13 @@
 -- script that has what a narrower premise would leave out: a host's leaf, the author's bracket, `sin ( )`, a start above its end, payloads
 -- on both semicolons, no word of a buffer to spare, two source lengths, of which the second is below the spans, two versions, two limits.
 -- A premise that is added to one of the records has no proof here.
-use Prim.Native.Nat.{ℕ, ◌+◌, ◌*◌, ◌/◌, ◌≤◌, ◌<◌}
-use mathlib.Core.{Path.{◌≡◌, refl, sym, subst}, Bool.{true}, List.{List, [], ◌∷◌, ◌++◌}, Option.{none, some}}
+use Prim.Native.Nat.{ℕ, ◌+◌, ◌*◌, ◌/◌, ◌≤◌}
+use mathlib.Core.{Path.{◌≡◌, refl, subst}, Bool.{true}, List.{List, [], ◌∷◌, ◌++◌}, Option.{none, some}}
 use lib.{Dec.{leb→le, ltb→lt}, IntN.{ℤ, pos}, ListN.{length, take, drop, replicate}}
 use Rattle.molang.specs.{Forest.{Token, Forest, nil, node}, Read.{Answer, tree, messages}, Words.{operator_field, token_words, list_words, node_words_of, tree_words, tokens_of}}
-use Rattle.molang.specs.{Nesting.{too_deep}, Parse.{Call, is_limit, refusal, reading, most_tokens}, Plain.{unplain_at}}
+use Rattle.molang.specs.{Nesting.{too_deep}, Parse.{is_limit, refusal, reading, most_tokens}, Plain.{unplain_at}}
 use Rattle.molang.specs.{Rules.{RuleCall, rule_refusal}, Write.{written_tree}, WriteEntry.{WriteCall, tree_fault}}
-use Rattle.molang.specs.Reread.{Rereading, exact_call, handed, writer_call, two_trees, reread, Lift, CanLift, CanReadBack, HasReadBack}
+use Rattle.molang.specs.Reread.{Rereading, exact_call, two_trees, reread, Lift, CanLift, CanReadBack, HasReadBack}
 use Rattle.molang.specs.Reread.{by_way_of, EachCanLift}
 use Rattle.molang.specs.Payloads.{PayloadApart, one_payload, with_list, ruled_with_list, Reach, RuleReach, WriteReach, with_tree}
 use Rattle.molang.specs.Payloads.{RereadReach, reread_with_list, first_nodes, tokens_between}

@@ -7,7 +7,7 @@ use Rattle.molang.specs.Forest.{Token}
 use Rattle.molang.specs.Words.{Refusal, tokens_of}
 use Rattle.molang.specs.Nesting.{open_after, first_above, too_deep}
 use Rattle.molang.specs.Parse.{Call, most_tokens, is_limit, refused}
-use Rattle.molang.specs.Left.{Left, left}
+use Rattle.molang.specs.Left.{left}
 
 -- The number of brackets open after these tokens, so many being open before them.
 unfoldable pub open_behind : ℕ → List Token → ℕ

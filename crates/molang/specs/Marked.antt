@@ -3,7 +3,7 @@
 -- of every list.
 use Rattle.std.specs.Prelude.{ℕ, zero, suc, Bool, true, false, ◌&&◌, ◌||◌, List, [], ◌∷◌, get_or, drop}
 use Rattle.molang.specs.Operator.{is_one_of}
-use Rattle.molang.specs.Forest.{Token, Forest, nil, node, in_order}
+use Rattle.molang.specs.Forest.{Forest, nil, node, in_order}
 use Rattle.molang.specs.Message.{Message, binary_at_end, Result, ok, fail}
 use Rattle.molang.specs.Level.{Gathered, gathered, waiting}
 use Rattle.molang.specs.Binary.{joined}

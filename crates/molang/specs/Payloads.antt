@@ -6,7 +6,7 @@ use Rattle.std.proofs.Math.Option.{Option, some}
 use Rattle.molang.specs.Words.{kind_of}
 use Rattle.molang.specs.Parse.{Call, Told, a_tree, some_messages, refused, answered, tree_after, messages_after, work_after}
 use Rattle.molang.specs.Rules.{RuleCall, rule_answered, ruled_tree_after, ruled_messages_after, ruled_work_after, rules_after}
-use Rattle.molang.specs.Left.{Left, left}
+use Rattle.molang.specs.Left.{left}
 use Rattle.molang.specs.WriteEntry.{WriteCall, WriteTold, tokens, unwritten, write_answered, list_after}
 use Rattle.molang.specs.Reread.{Rereading, handed, writer_call, RereadTold, two_trees, first_messages, second_messages, turned_back}
 use Rattle.molang.specs.Reread.{RereadLeft}

@@ -4,7 +4,7 @@ use mathlib.Core.{Path.{◌≡◌, refl, ap, ap₂, sym, ◌∙◌}, Bool.{Bool,
 use native.Mathlib.{Omega.{arith}, Nat.{add-zero}}
 use lib.{Dec.{eqb}, ListN.{length, take, drop, get_or, length-drop, length-append}, Seq.{get_or-drop, drop-drop}}
 use Rattle.molang.specs.{Words.{low_of}, WriteEntry.{trees_of}, Operator.{is_bracket, is_math_call}}
-use Rattle.words.specs.{Tokens.{token_words_at, five_words, node_length}, declared.tokens.TokenWords.{TokenWords}, Fields.{operator_of}}
+use Rattle.words.specs.{Tokens.{node_length}, Fields.{operator_of}}
 use Rattle.words.specs.{Extents.{wider, first_extent}, declared.extent.Extent.{Extent}, Records.{laid_at}}
 use Rattle.words.proofs.{TreeLaws.{Fits, from_nothing, first_fits, extent-taken}, RecordLaws.{laid-before}}
 use Rattle.shape.{specs.Shaped.{count_index, first_five, Shaped}, proofs.RowLaws.{Opened, opened, shaped-room}}

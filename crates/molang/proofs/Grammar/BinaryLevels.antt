@@ -13,7 +13,6 @@ use Rattle.molang.proofs.{Forests.{Turns}}
 use Rattle.molang.proofs.Grammar.Walk.{walk-on, walk-into, Gathers, Carries, Passes, carry-both, carry-node, carry-token}
 use Rattle.molang.proofs.Grammar.Walk.{carry-whole}
 use Rattle.molang.proofs.Grammar.Ranked.{Exp, leaf, over, beside, between, choice, chosen, is_tight, Ranked, amid, form}
-use Rattle.molang.specs.Operator
 
 -- ---- turning round
 

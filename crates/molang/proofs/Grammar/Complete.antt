@@ -25,7 +25,7 @@ use Rattle.molang.proofs.{Grammar.Ranked.{Exp}, Grammar.Returned.{is_return_leaf
 use Rattle.molang.proofs.Grammar.Ranks.{Kind, plain, plus, ternary, operators_in, pass_of, kind_of, kinds_of, levels, rank, pairing}
 use Rattle.molang.proofs.{Grammar.Gating.{map, each_map, in-shape, in-ranked}, Grammar.Returning.{same}}
 use Rattle.molang.proofs.{Grammar.TextForms.{raw-tokens}, Grammar.Levels.{ruled, Lacks, Gated}}
-use Rattle.molang.proofs.Grammar.Reading.{at, folded, Unneeded, calls-made, returns-made, canonical-reads}
+use Rattle.molang.proofs.Grammar.Reading.{folded, Unneeded, calls-made, returns-made, canonical-reads}
 use Rattle.molang.proofs.Grammar.Shape as Shapes
 use Rattle.molang.proofs.Grammar.Ranked as Ranks
 

@@ -16,8 +16,6 @@ use Rattle.molang.proofs.{Grammar.Signed.{Unsigned}, Grammar.Canonical.{arrow_ra
 use Rattle.molang.proofs.{Grammar.Numbers.{apart, infixes, plainly, unsigned, unpointed}, OperatorNumbers.{none_of, every, each-one}}
 use Rattle.molang.proofs.Grammar.Kept.{All}
 use Rattle.molang.proofs.Grammar.Shape as Shapes
-use Rattle.molang.proofs.Grammar.Ranked as Ranks
-use Rattle.molang.proofs.Grammar.Prefixed as Prefixed
 
 -- ---- what the operators of tokens are not
 

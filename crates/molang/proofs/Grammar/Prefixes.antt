@@ -5,7 +5,7 @@ use Prim.Native.Nat.{ℕ}
 use mathlib.Core.{Path.{◌≡◌, refl, ap, sym, ◌∙◌}, Bool.{true, false, false≢true}, Option.{Option, none, some}, Logic.{◌⊎◌, inl, inr}}
 use lib.Dec.{eqb}
 use borrow.Author.Tests.{eqb-true}
-use Rattle.molang.specs.Operator.{negate, logical_not, add, operand, operator, minus as a_minus, BeforeMinus, before_minus}
+use Rattle.molang.specs.Operator.{negate, logical_not, add, operand, minus as a_minus, before_minus}
 use Rattle.molang.specs.{Forest.{Token, Forest, nil, node, renamed, bare}, Message.{ok}}
 use Rattle.molang.specs.Unary.{done, unary, minus_after, not_before, unary_leaf, unary_node, turned, unary_pass}
 use Rattle.molang.proofs.Grammar.Prefixed.{Text, item, prefix, between, minus, minuses, beside, raw, negated, read, last_of}

@@ -23,7 +23,6 @@ use Rattle.molang.proofs.Grammar.TextForms.{raw-tokens, form-points, counted-raw
 use Rattle.molang.proofs.Grammar.Ranks as Ranking
 use Rattle.molang.proofs.Grammar.Shape as Shapes
 use Rattle.molang.proofs.Grammar.Ranked as Ranks
-use Rattle.molang.proofs.Grammar.Prefixed as Prefixes
 
 arrow-told : (n : ℕ) → is_one_of (Operator.pointer ∷ []) n ≡ eqb (arrow_rank n) 1
 unfolding is_one_of any arrow_rank

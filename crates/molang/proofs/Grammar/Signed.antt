@@ -3,7 +3,6 @@
 use mathlib.Core.{Path.{◌≡◌}, Bool.{true, false}, Option.{Option, none, some}, Logic.{◌⊎◌}}
 use lib.Dec.{eqb}
 use Rattle.molang.specs.{Operator.{negate, logical_not, operand, before_minus}, Forest.{Token}, Grammar.{Text}}
-use Rattle.molang.specs.Operator
 use Rattle.molang.proofs.{Grammar.Prefixed.{last_of, is_operand, Unary}, Grammar.Views.{prefixed}}
 use Rattle.molang.specs.Grammar as Texts
 

@@ -2,7 +2,6 @@
 use mathlib.Core.Path.{sym, ◌∙◌}
 use native.Mathlib.Omega.{arith}
 use Rattle.write.proofs.EntryLaws.{root-long, too_many, too_short, script-room, script-filled, expression-room, expression-filled}
-use borrow.Author.Rules.{rules}
 use Rattle.write.proofs.fill.Goals as goal
 
 pub returns-then-tokens-gt-MOST_TOKENS : goal.returns-then-tokens-gt-MOST_TOKENS

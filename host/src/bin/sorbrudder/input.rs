@@ -70,9 +70,10 @@ pub trait Source {
     fn fill(&mut self, batch: &mut Batch) -> Result<bool, Failure>;
 }
 
-/// How many lists and words make a batch.
-const MOST_LISTS: usize = 256;
-const MOST_WORDS: usize = 1 << 13;
+/// How many lists and words make a batch. A few batches for each thread are under way at once, with what comes of them: twice as much went
+/// past 10 MB on four threads.
+const MOST_LISTS: usize = 128;
+const MOST_WORDS: usize = 1 << 12;
 
 impl Batch {
     pub fn is_empty(&self) -> bool {

@@ -1,10 +1,8 @@
 -- `write::plain::holds_statements` meets its contract. The loop's invariant is `Holding`; the measure is the words that are left. Assumes
+-- nothing.
 use Prim.Native.Nat.{◌-◌}
-use native.Mathlib.Omega.{arith}
-use borrow.Author.Rules.{rules}
 use lib.ListN.{length}
-use Rattle.write.proofs.RootLaws.{Holding, holding-begins, holding-room, holding-few, holding-falls, holding-refused, holding-child}
-use Rattle.write.proofs.{RootLaws.{holding-below, holding-ends}}
+use Rattle.write.proofs.RootLaws.{Holding}
 use Rattle.write.proofs.plain.holds_statements.Given as goal
 
 abbrev pub invariant-loop-at : goal.invariant-loop-at

@@ -1,5 +1,5 @@
 -- `write::plain::is_call` meets its contract: a query, or a math call. Assumes nothing.
-use borrow.Author.{Tests.{eq-eqb, ne_eqb}, Rules.{rules}}
+use borrow.Author.{Tests.{eq-eqb, ne_eqb}}
 use Rattle.molang.specs.Plain.{is_call}
 use Rattle.write.proofs.plain.is_call.Goals as goal
 

@@ -1,6 +1,6 @@
 -- `write::plain::is_call_over` meets its contract: by the first child. Assumes nothing.
 use mathlib.Core.Bool.{and-true, and-false}
-use borrow.Author.{Tests.{eq-eqb, ne_eqb}, Rules.{rules}}
+use borrow.Author.{Tests.{eq-eqb, ne_eqb}}
 use Rattle.molang.specs.Operator.{is_bracket}
 use Rattle.write.proofs.plain.is_call_over.Goals as goal
 

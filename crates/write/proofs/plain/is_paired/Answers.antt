@@ -1,6 +1,6 @@
 -- `write::plain::is_paired` meets its contract: by the node, then by its seat. Assumes nothing.
 use mathlib.Core.Bool.{or-true}
-use borrow.Author.{Tests.{eq-eqb, ne_eqb}, Rules.{rules}}
+use borrow.Author.{Tests.{eq-eqb, ne_eqb}}
 use Rattle.molang.specs.Operator.{is_bracket}
 use Rattle.write.specs.Seats.{is_paired}
 use Rattle.write.proofs.{CaseLaws.{operand-unspared, enclosed-spared}}

@@ -1,7 +1,6 @@
 -- `write::plain::is_plain` meets its contract: by the number of children. Assumes nothing.
 use Rattle.write.specs.Seats.{plain_by}
 use Rattle.write.proofs.{CaseLaws.{over-many}}
-use borrow.Author.Rules.{rules}
 use Rattle.write.proofs.plain.is_plain.Goals as goal
 
 pub returns-in_default : goal.returns-in_default

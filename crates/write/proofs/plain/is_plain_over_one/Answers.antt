@@ -1,6 +1,6 @@
 -- `write::plain::is_plain_over_one` meets its contract: by the operator, then by the first child. Assumes nothing.
 use mathlib.Core.{Path.{sym, ◌∙◌}, Bool.{or-false}}
-use borrow.Author.{Tests.{ne_eqb}, Rules.{rules}}
+use borrow.Author.{Tests.{ne_eqb}}
 use Rattle.molang.specs.{Operator.{any, is_one_of, between, is_math_call}, Plain.{is_call, is_under_semicolon}}
 use Rattle.write.specs.Seats.{is_prefix, holds_one, plain_by}
 use Rattle.write.proofs.plain.is_plain_over_one.Goals as goal

@@ -1,6 +1,6 @@
 -- `write::plain::is_plain_over_two` meets its contract: `:`, an assignment, or a binary operator. Assumes nothing.
 use mathlib.Core.Bool.{or-false}
-use borrow.Author.{Tests.{ne_eqb}, Rules.{rules}}
+use borrow.Author.{Tests.{ne_eqb}}
 use Rattle.molang.specs.{Operator.{between}, Plain.{is_plain_binary}}
 use Rattle.write.specs.Seats.{plain_by}
 use Rattle.write.proofs.plain.is_plain_over_two.Goals as goal

@@ -1,6 +1,6 @@
 -- `write::plain::is_plain_without_children` meets its contract: an empty bracket, or a leaf. Assumes nothing.
 use mathlib.Core.Bool.{or-false}
-use borrow.Author.{Tests.{ne_eqb}, Rules.{rules}}
+use borrow.Author.{Tests.{ne_eqb}}
 use Rattle.molang.specs.{Operator.{between, is_host, is_bracket}, Plain.{is_plain_leaf}}
 use Rattle.write.specs.Seats.{plain_by}
 use Rattle.write.proofs.plain.is_plain_without_children.Goals as goal

@@ -1,7 +1,6 @@
 -- `write::plain::is_right_of_question` meets its contract: that seat, and the others. Assumes nothing.
 use Rattle.molang.specs.Plain.{is_right_of_question}
 use Rattle.write.proofs.{CaseLaws.{not-right-of-question}}
-use borrow.Author.Rules.{rules}
 use Rattle.write.proofs.plain.is_right_of_question.Goals as goal
 use borrow.Enum.Refused.{opened}
 

@@ -1,5 +1,5 @@
 -- `write::plain::is_statement` meets its contract: by the first child, then by the seat. Assumes nothing.
-use borrow.Author.{Tests.{eq-eqb, ne_eqb}, Rules.{rules}}
+use borrow.Author.{Tests.{eq-eqb, ne_eqb}}
 use Rattle.write.proofs.plain.is_statement.Goals as goal
 
 pub returns-then-first-eq-SEMICOLON : goal.returns-then-first-eq-SEMICOLON

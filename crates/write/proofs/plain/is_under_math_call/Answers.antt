@@ -1,7 +1,6 @@
 -- `write::plain::is_under_math_call` meets its contract: that seat, and the others. Assumes nothing.
 use Rattle.molang.specs.Plain.{is_under_math_call}
 use Rattle.write.proofs.{CaseLaws.{not-under-math}}
-use borrow.Author.Rules.{rules}
 use Rattle.write.proofs.plain.is_under_math_call.Goals as goal
 use borrow.Enum.Refused.{opened}
 

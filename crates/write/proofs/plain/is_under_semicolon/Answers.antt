@@ -1,7 +1,6 @@
 -- `write::plain::is_under_semicolon` meets its contract: that seat, and the others. Assumes nothing.
 use Rattle.molang.specs.Plain.{is_under_semicolon}
 use Rattle.write.proofs.{CaseLaws.{not-under-semicolon}}
-use borrow.Author.Rules.{rules}
 use Rattle.write.proofs.plain.is_under_semicolon.Goals as goal
 use borrow.Enum.Refused.{opened}
 

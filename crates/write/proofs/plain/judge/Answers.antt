@@ -2,7 +2,7 @@
 -- Assumes nothing.
 use mathlib.Core.Path.{sym, ◌∙◌}
 use native.Mathlib.Omega.{arith}
-use borrow.Author.{Rules.{rules}, Tests.{not-true, not-false}}
+use borrow.Author.{Tests.{not-true, not-false}}
 use Rattle.write.specs.Scripts.{an_expression, a_script}
 use Rattle.shape.proofs.RowLaws.{shaped-room}
 use Rattle.write.proofs.{JudgeLaws.{root-refused}}

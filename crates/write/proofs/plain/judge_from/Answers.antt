@@ -3,12 +3,12 @@
 use Prim.Native.Nat.{◌+◌, ◌-◌, ◌≤◌}
 use mathlib.Core.{Path.{◌≡◌, refl, ap, sym, ◌∙◌}, Bool.{true}}
 use native.Mathlib.Omega.{arith}
-use borrow.Author.{Rules.{rules}, Tests.{not-true, not-false}}
+use borrow.Author.{Tests.{not-true, not-false}}
 use lib.ListN.{length, get_or}
 use Rattle.molang.specs.WriteEntry.{most_nodes}
 use Rattle.write.specs.{declared.plain.Seat.TheVariants.{Enclosed}, declared.reader.NodeView.{NodeView}, Seats.{plain_by}}
 use Rattle.write.specs.Reading.{operator_at}
-use Rattle.write.proofs.JudgeLaws.{Judging, Turn, few-tokens, begins-early, judging-begins, judging-room, judging-room-two}
+use Rattle.write.proofs.JudgeLaws.{Turn, few-tokens, begins-early, judging-begins, judging-room, judging-room-two}
 use Rattle.write.proofs.JudgeLaws.{judging-refused, judging-none, judging-one, judging-two, judging-ends, falls}
 use Rattle.words.specs.Tokens.{node_length}
 use Rattle.write.proofs.plain.judge_from.Goals as goal

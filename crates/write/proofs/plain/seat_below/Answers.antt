@@ -1,5 +1,5 @@
 -- `write::plain::seat_below` meets its contract: a semicolon, or any other operator. Assumes nothing.
-use borrow.Author.{Tests.{eq-eqb, ne_eqb}, Rules.{rules}}
+use borrow.Author.{Tests.{eq-eqb, ne_eqb}}
 use Rattle.write.specs.Seats.{below_seat}
 use Rattle.write.proofs.plain.seat_below.Goals as goal
 

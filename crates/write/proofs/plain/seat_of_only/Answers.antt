@@ -1,6 +1,6 @@
 -- `write::plain::seat_of_only` meets its contract: by the operator. Assumes nothing.
 use mathlib.Core.Path.{sym, ◌∙◌}
-use borrow.Author.{Tests.{eq-eqb, ne_eqb}, Rules.{rules}}
+use borrow.Author.{Tests.{eq-eqb, ne_eqb}}
 use Rattle.molang.specs.Operator.{is_bracket}
 use Rattle.write.specs.Seats.{only_seat}
 use Rattle.write.proofs.plain.seat_of_only.Goals as goal

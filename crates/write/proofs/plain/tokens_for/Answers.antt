@@ -1,6 +1,6 @@
 -- `write::plain::tokens_for` meets its contract: a bracket, a node in an added pair, any other node. Assumes nothing.
 use mathlib.Core.Path.{sym, ◌∙◌}
-use borrow.Author.{Tests.{eq-eqb, ne_eqb}, Rules.{rules}}
+use borrow.Author.{Tests.{eq-eqb, ne_eqb}}
 use Rattle.molang.specs.Operator.{is_bracket}
 use Rattle.write.specs.Seats.{tokens_for}
 use Rattle.write.proofs.{CaseLaws.{bracket-unpaired}}

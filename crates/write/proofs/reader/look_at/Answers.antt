@@ -1,5 +1,4 @@
 -- `write::reader::look_at` meets its contract, field by field. Assumes nothing.
-use borrow.Author.Rules.{rules}
 use Prim.Native.Nat.{◌+◌}
 use Rattle.write.proofs.reader.look_at.Goals as goal
 

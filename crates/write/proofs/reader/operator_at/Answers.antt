@@ -2,7 +2,6 @@
 use lib.ListN.{get_or-eq_default}
 use Rattle.molang.specs.Words.{low_of, number_in}
 use Rattle.words.specs.Fields.{operator_of}
-use borrow.Author.Rules.{rules}
 use Rattle.write.proofs.reader.operator_at.Goals as goal
 
 pub returns : goal.returns

@@ -3,11 +3,11 @@
 use Rattle.std.proofs.Common.{ℕ, ◌≡◌, ◌+◌, ◌-◌, ◌*◌, ◌≤◌, ◌<◌, List, length, drop, get_or, refl, ap, sym, ◌∙◌, arith}
 use lib.Seq.{length-take-le}
 use Rattle.molang.specs.Words.{low_of}
-use Rattle.words.specs.{Fields.{operator_of}, Records.{laid_at}, Tokens.{node_length}}
+use Rattle.words.specs.{Records.{laid_at}, Tokens.{node_length}}
 use Rattle.shape.specs.Shaped.{count_index, first_five}
 use Rattle.write.specs.{Seats.{right_seat}, Spelling.{Room, node_tokens, node_written, seen}, Spine.{the_root}}
 use Rattle.write.proofs.CaseLaws.{leaf-unpaired}
-use Rattle.write.proofs.StepLaws.{Puts, Writes, tail, tail-part, nodes_left, operand-long, alone-room, alone-writes, inner_room, close-room}
+use Rattle.write.proofs.StepLaws.{Puts, tail, tail-part, nodes_left, operand-long, alone-room, alone-writes, inner_room, close-room}
 use Rattle.write.proofs.StepLaws.{pair-spans, pair-writes}
 use Rattle.write.proofs.SpineLaws.{Climbing, Turn, room-opens, leaf-within, leaf-place, leaf_room, climbing-begins}
 use Rattle.write.proofs.SpineLaws.{up-within, up-longer, up-front, own-long, count-here, operator-in, pair-asked}
@@ -164,8 +164,7 @@ write_node-loop-node-preserved-then-low-ne2 t c =
     let one = one-child (c.loop-node.node - node_length) c.args.words.now c.low.ensures c.if-low-ne2.true in
     λ L fits begun.
     rw up.value
-    (climbed-one (turn-of c.requires fits (c.loop-node.invariant L fits begun) c.loop-node-test.true) up.list_after up.to_after one
-    (
+    (climbed-one (turn-of c.requires fits (c.loop-node.invariant L fits begun) c.loop-node-test.true) up.list_after up.to_after one (
       rw (tail-part (c.loop-node.node - node_length) c.args.words.now, up.value) at c.put_round.ensures.list_after,
       rw (tail-part (c.loop-node.node - node_length) c.args.words.now) at c.put_round.ensures.to_after,
     )

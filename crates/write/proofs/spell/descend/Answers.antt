@@ -1,11 +1,8 @@
 -- `write::spell::descend` meets its contract. The loop's invariant is that it stands at one of the first children; the measure is the words
 -- that are left. Assumes nothing.
-use Prim.Native.Nat.{◌-◌}
-use mathlib.Core.Path.{◌≡◌, sym, ◌∙◌}
+use mathlib.Core.Path.{sym, ◌∙◌}
 use native.Mathlib.Omega.{arith}
-use borrow.Author.Rules.{rules}
-use lib.ListN.{length}
-use Rattle.write.specs.{Reading.{children_at}, Spine.{has_pair, Spine, the_root, first_child}}
+use Rattle.write.specs.{Reading.{children_at}, Spine.{has_pair, the_root, first_child}}
 use Rattle.write.proofs.SpineLaws.{opens-with, spine-long, spine-longer, spine-front, front-few}
 use Rattle.write.proofs.spell.descend.Goals as goal
 

@@ -1,5 +1,4 @@
 -- `write::spell::front_at` meets its contract, word by word. Assumes nothing.
-use borrow.Author.Rules.{rules}
 use Rattle.write.proofs.spell.front_at.Goals as goal
 
 pub returns : goal.returns

@@ -1,6 +1,5 @@
 -- `write::spell::has_pair` meets its contract, word by word. Assumes nothing.
 use Rattle.write.specs.Spine.{has_pair}
-use borrow.Author.Rules.{rules}
 use Rattle.write.proofs.spell.has_pair.Goals as goal
 
 pub returns : goal.returns

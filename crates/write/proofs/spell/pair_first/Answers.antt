@@ -1,7 +1,6 @@
 -- `write::spell::pair_first` meets its contract: with the pair, or as it was. Assumes nothing.
 use mathlib.Core.Path.{refl, sym, ◌∙◌}
 use native.Mathlib.Omega.{arith}
-use borrow.Author.Rules.{rules}
 use Rattle.write.proofs.spell.pair_first.Goals as goal
 
 pub overflow_sub-opener : goal.overflow_sub-opener

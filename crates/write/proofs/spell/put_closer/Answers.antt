@@ -4,7 +4,6 @@ use native.Mathlib.{Nat.{add-zero}, Omega.{arith}}
 use lib.ListN.{length}
 use Rattle.words.proofs.RecordLaws.{none-laid}
 use Rattle.write.proofs.{SpellLaws.{bracket-closer, no-closer}}
-use borrow.Author.Rules.{rules}
 use Rattle.write.proofs.spell.put_closer.Goals as goal
 
 pub put-requires : goal.put-requires

@@ -1,5 +1,4 @@
 -- `write::spell::put_pair` meets its contract: by those of `spanning`, of the laying of the opener and of `put`. Assumes nothing.
-use borrow.Author.Rules.{rules}
 use Rattle.write.proofs.spell.put_pair.Goals as goal
 
 pub returns : goal.returns

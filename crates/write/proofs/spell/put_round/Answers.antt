@@ -1,6 +1,4 @@
 -- `write::spell::put_round` meets its contract: by those of the laying of the token and of `put_closer`. Assumes nothing.
-use borrow.Author.Rules.{rules}
-use native.Mathlib.Omega.{arith}
 use Rattle.shape.specs.Shaped.{first_five}
 use Rattle.write.proofs.spell.put_round.Goals as goal
 

@@ -1,6 +1,5 @@
 -- `write::spell::put_token` meets its contract: by that of `put`. Assumes nothing.
 use Rattle.shape.specs.Shaped.{first_five}
-use borrow.Author.Rules.{rules}
 use Rattle.write.proofs.spell.put_token.Goals as goal
 
 pub returns : goal.returns

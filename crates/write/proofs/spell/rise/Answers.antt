@@ -1,10 +1,9 @@
 -- `write::spell::rise` meets its contract: the pair by `pair_first`, the span by `widen`, and the front from whether there is a pair.
 -- Assumes nothing.
 use Prim.Native.Nat.{ℕ, ◌-◌}
-use mathlib.Core.Path.{◌≡◌, ap, sym, ◌∙◌}
+use mathlib.Core.Path.{◌≡◌, ap}
 use native.Mathlib.Omega.{arith}
 use lib.Seq.{get_or-drop}
-use borrow.Author.Rules.{rules}
 use Rattle.write.specs.Spine.{front_at}
 use Rattle.write.proofs.spell.rise.Goals as goal
 

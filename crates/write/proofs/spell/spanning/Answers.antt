@@ -1,5 +1,4 @@
 -- `write::spell::spanning` meets its contract: by its five made words. Assumes nothing.
-use borrow.Author.Rules.{rules}
 use Rattle.write.proofs.spell.spanning.Goals as goal
 
 pub returns : goal.returns

@@ -6,7 +6,6 @@ use lib.Seq.{length-take-le}
 use Rattle.words.specs.Tokens.{node_length}
 use Rattle.write.specs.Spelling.{seen}
 use Rattle.write.proofs.StepLaws.{node-long, none-token, none-closer, none-spans, none-length, none-writes}
-use borrow.Author.Rules.{rules}
 use Rattle.write.proofs.spell.write_leaf.Goals as goal
 
 pub bounds-words-2 : goal.bounds-words-2

@@ -1,10 +1,7 @@
 -- `write::statements::write_statements` meets its contract. The loop's invariant is `Stating`; the measure is the words that are left.
 -- Assumes nothing.
-use Prim.Native.Nat.{◌-◌}
 use native.Mathlib.Omega.{arith}
-use borrow.Author.Rules.{rules}
-use lib.ListN.{length}
-use Rattle.write.proofs.StatementLaws.{Stating, stating-begins, stating-ends, stating-room, stating-within, stating-falls}
+use Rattle.write.proofs.StatementLaws.{stating-begins, stating-ends, stating-room, stating-within, stating-falls}
 use Rattle.write.proofs.{StatementLaws.{stating-on}}
 use Rattle.write.proofs.statements.write_statements.Goals as goal
 
@@ -15,17 +12,17 @@ write_statement-at-requires c =
 pub overflow_add-at : goal.overflow_add-at
 overflow_add-at c =
     let e = c.write_statement-at.ensures in
-    omega (arith, stating-within c.loop-at.invariant c.loop-at-test.true e.value e.1)
+    omega (arith, stating-within c.loop-at.invariant c.loop-at-test.true e.value (e.list_after, e.to_after))
 
 pub loop-at-smaller : goal.loop-at-smaller
 loop-at-smaller c =
     let e = c.write_statement-at.ensures in
-    stating-falls c.loop-at.invariant c.loop-at-test.true e.value e.1
+    stating-falls c.loop-at.invariant c.loop-at-test.true e.value (e.list_after, e.to_after)
 
 pub loop-at-preserved : goal.loop-at-preserved
 loop-at-preserved c =
     let e = c.write_statement-at.ensures in
-    stating-on c.loop-at.invariant c.loop-at-test.true e.value e.1
+    stating-on c.loop-at.invariant c.loop-at-test.true e.value (e.list_after, e.to_after)
 
 pub loop-at-init : goal.loop-at-init
 loop-at-init c =

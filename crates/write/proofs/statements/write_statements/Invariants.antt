@@ -1,10 +1,7 @@
 -- `write::statements::write_statements` meets its contract. The loop's invariant is `Stating`; the measure is the words that are left.
 use Prim.Native.Nat.{◌-◌}
-use native.Mathlib.Omega.{arith}
-use borrow.Author.Rules.{rules}
 use lib.ListN.{length}
-use Rattle.write.proofs.StatementLaws.{Stating, stating-begins, stating-ends, stating-room, stating-within, stating-falls}
-use Rattle.write.proofs.{StatementLaws.{stating-on}}
+use Rattle.write.proofs.StatementLaws.{Stating}
 use Rattle.write.proofs.statements.write_statements.Given as goal
 
 abbrev pub invariant-loop-at : goal.invariant-loop-at
