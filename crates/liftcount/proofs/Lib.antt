@@ -8,3 +8,4 @@ pub mod CloseLaws
 pub mod StepLaws
 pub mod FeedLaws
 pub mod FinishLaws
+pub mod InputLaws

@@ -4,3 +4,4 @@ pub mod CutLaws
 pub mod JudgeLaws
 pub mod StepLaws
 pub mod GoingLaws
+pub mod RunLaws

@@ -12,12 +12,6 @@ close_last-closed-requires g c =
     let p = c.requires in
     record { list_len = (p.list_len.0, p.list_len.1, omega (arith, p.list_len.2, p.list_len.3)); lift_scratch = p.lift_scratch; fine = p.fine.0 }
 
-pub slice_bounds-hand_last-end : goal.slice_bounds-hand_last-end
-slice_bounds-hand_last-end g c = search rules
-
-pub slice_bounds-hand_last-end-2 : goal.slice_bounds-hand_last-end-2
-slice_bounds-hand_last-end-2 g c = sym (length-take-le _ _ (slice_bounds-hand_last-end c.before))
-
 pub hand_last-requires : goal.hand_last-requires
 hand_last-requires g c =
     let a = c.args in

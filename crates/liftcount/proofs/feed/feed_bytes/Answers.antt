@@ -12,19 +12,14 @@ pub loop-i-init : goal.loop-i-init
 loop-i-init c =
     (omega arith, c.requires.list_len, c.requires.scratch, refl)
 
-pub overflow_add-i : goal.overflow_add-i
-overflow_add-i c =
-    omega (arith, c.loop-i-test.true, c.before.before.before.before.before.before.before.before.before.before.before.before.before.before.before.before.before.before.before.before.before.before.before.before.before)
-
 pub loop-i-preserved : goal.loop-i-preserved
 loop-i-preserved c =
     let took = c.take_byte-then in
-    let back = took.auto.1.1.1 in
     let at = c.loop-i in
     let bytes = c.args.bytes.now in (
       omega arith,
-      omega (arith, took.auto.1.0, at.invariant.1),
-      scratch-kept at.invariant.2 back.0 back.1.0 back.1.1.0 back.1.1.1.0,
+      omega (arith, took.auto.list, at.invariant.1),
+      scratch-kept at.invariant.2 took.auto.tree took.auto.again took.auto.messages took.auto.work,
       ap (λ (s : State). fed s (drop (at.i + 1) bytes)) took.ensures
           ∙ sym (byte-on (state_of at.then at.list) bytes at.i c.loop-i-test.true)
           ∙ at.invariant.3,

@@ -18,14 +18,9 @@ take_word-then-requires c =
     let at = c.loop-at in
     record { list_len = at.invariant.4; scratch = at.invariant.5 }
 
-pub overflow_add-at-in-loop-at-3 : goal.overflow_add-at-in-loop-at-3
-overflow_add-at-in-loop-at-3 c =
-    omega (arith, c.loop-at-test.true, c.before.before.before.before.before.before.before.before.before.before.before.before.before.before.before.before.before.before.before.before.before.before.before.before.before.before.before.before.before)
-
 pub loop-at-preserved : goal.loop-at-preserved
 loop-at-preserved c =
     let took = c.take_word-then in
-    let back = took.auto.1.1.1 in
     let at = c.loop-at in
     let run = at.then in
     let bytes = c.args.bytes.now in
@@ -35,8 +30,8 @@ loop-at-preserved c =
       omega (arith, at.invariant.1),
       ap (λ (s : State). s.held) whole,
       omega (arith, ap (λ (s : State). s.partial) whole),
-      omega (arith, took.auto.1.0, at.invariant.4),
-      scratch-kept at.invariant.5 back.0 back.1.0 back.1.1.0 back.1.1.1.0,
+      omega (arith, took.auto.list, at.invariant.4),
+      scratch-kept at.invariant.5 took.auto.tree took.auto.again took.auto.messages took.auto.work,
       ap (λ (s : State). fed s (drop (at.at + 4) bytes)) whole
           ∙ sym (word_on (state_of run at.list) bytes at.at at.invariant.2 at.invariant.3 room)
           ∙ at.invariant.6,

@@ -8,8 +8,7 @@ use Rattle.liftcount.proofs.judge.after_tree.Goals as goal
 
 pub returns-then-n-m : goal.returns-then-n-m
 returns-then-n-m c =
-    let second = c.second.given in
-    rw second.1 (trees-other c.args.n second.0.0 c.args.tree.now c.args.again.now c.if-n-m.true)
+    rw c.in-Tree.is (trees-other c.args.n c.in-Tree.m c.args.tree.now c.args.again.now c.if-n-m.true)
 
 pub same_words-requires : goal.same_words-requires
 same_words-requires c =
@@ -18,17 +17,15 @@ same_words-requires c =
 
 pub returns-then-same_words : goal.returns-then-same_words
 returns-then-same_words c =
-    let second = c.second.given in
-    rw second.1
+    rw c.in-Tree.is
     (ap trees_by (sym c.if-same_words.true ∙ c.same_words.ensures)
-    ∙ trees-by c.args.n second.0.0 c.args.tree.now c.args.again.now c.if-n-m.false)
+    ∙ trees-by c.args.n c.in-Tree.m c.args.tree.now c.args.again.now c.if-n-m.false)
 
 pub returns-else-same_words : goal.returns-else-same_words
 returns-else-same_words c =
-    let second = c.second.given in
-    rw second.1
+    rw c.in-Tree.is
     (ap trees_by (sym c.if-same_words.false ∙ c.same_words.ensures)
-    ∙ trees-by c.args.n second.0.0 c.args.tree.now c.args.again.now c.if-n-m.false)
+    ∙ trees-by c.args.n c.in-Tree.m c.args.tree.now c.args.again.now c.if-n-m.false)
 
 pub returns-in-Refused : goal.returns-in-Refused
 returns-in-Refused c =

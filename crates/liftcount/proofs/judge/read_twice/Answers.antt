@@ -15,8 +15,8 @@ compared-requires c =
     let fault = words_refusal 0 operator_field 0 list in
     let one = c.read_list-first in
     let two = c.read_list-second in (
-      rw one.ensures.0 (holds fault list _ one.new.1.0 (omega (arith, one.auto.1.0, c.requires.readable.tree_room))),
-      rw two.ensures.0 (holds fault list _ two.new.1.0 (omega (arith, two.auto.1.0, c.requires.readable_2.tree_room))),
+      rw one.ensures.result_value (holds fault list _ one.new.tree (omega (arith, one.auto.tree, c.requires.readable.tree_room))),
+      rw two.ensures.result_value (holds fault list _ two.new.tree (omega (arith, two.auto.tree, c.requires.readable_2.tree_room))),
     )
 
 pub returns : goal.returns

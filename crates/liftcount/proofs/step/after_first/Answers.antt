@@ -1,4 +1,5 @@
 -- `liftcount::step::after_first` meets its contract. Assumes nothing.
+use mir.Syntax.{w16}
 use mathlib.Core.Path.{◌∙◌}
 use mir.Facts.{to_z-of_z}
 use Rattle.liftcount.proofs.{StepLaws.{first-version, first-fault}}
@@ -7,7 +8,7 @@ use Rattle.liftcount.proofs.step.after_first.Goals as goal
 
 pub returns-then-w-lt-PAST_VERSIONS : goal.returns-then-w-lt-PAST_VERSIONS
 returns-then-w-lt-PAST_VERSIONS c counts list =
-    let version = to_z-of_z (record { sfits = c.version_of.type_inv }) ∙ c.version_of.ensures in
+    let version = to_z-of_z {w = w16} {z = c.version_of.result} (record { sfits = c.version_of.type_inv }) ∙ c.version_of.ensures in
     first-version counts list c.args.w c.if-w-lt-PAST_VERSIONS.true version
 
 pub returns : goal.returns

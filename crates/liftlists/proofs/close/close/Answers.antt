@@ -8,29 +8,14 @@ use Rattle.liftlists.specs.{LiftedFile.{file_list, all_words, engine_of}, Steps.
 use Rattle.liftlists.proofs.{CutLaws.{carried-behind}, JudgeLaws.{carried_same, carried-lifted, listed}}
 use borrow.Author.Rules.{rules}
 use Rattle.liftlists.proofs.close.close.Goals as goal
-use Rattle.liftlists.proofs.close.close.Lts as lts
-use Rattle.liftlists.proofs.close.close.Tie as tie
-use Rattle.liftlists.proofs.close.close.Reads as reads
-
--- What comes out has room in the output.
-came-out : (c : (lts.After-known_told tie.the-claims reads.Pre reads.Post tie.handed_clauses))
-    → let a = c.args in
-    (lift_of (engine_of a.opener) (engine_of a.to) a.list.now ≡ lifted (take (5 * c.in-Lifted.tokens) c.judge-fate.new.1.1.1.1.1.1.0))
-    × (5 * c.in-Lifted.tokens ≤ 20480)
-came-out c =
-    let h = rw c.in-Lifted.is at c.judge-fate.ensures in
-    (h.0, omega (arith, h.1, c.judge-fate.auto.1.1.1.1.1.1.0, c.requires.lift_scratch.output_words))
-
-pub slice_bounds-put_list-end : goal.slice_bounds-put_list-end
-slice_bounds-put_list-end c =
-    omega (arith, (came-out c.before.before).1, c.judge-fate.auto.1.1.1.1.1.1.0, c.requires.lift_scratch.output_words)
-
-pub slice_bounds-put_list-end-in-Lifted : goal.slice_bounds-put_list-end-in-Lifted
-slice_bounds-put_list-end-in-Lifted c = sym (length-take-le _ _ (slice_bounds-put_list-end c.before))
 
 pub put_list-requires-in-Lifted : goal.put_list-requires-in-Lifted
 put_list-requires-in-Lifted c =
-    omega (arith, (came-out c.before.before).1, slice_bounds-put_list-end-in-Lifted c, c.requires.list_len_bound.3)
+    let came_out : (lift_of (engine_of c.args.opener) (engine_of c.args.to) c.args.list.now ≡ lifted (take (5 * c.in-Lifted.tokens) c.judge-fate.new.output))
+        × (5 * c.in-Lifted.tokens ≤ 20480) =
+    (let h = rw c.in-Lifted.is at c.judge-fate.ensures in (h.0, omega (arith, h.1, c.judge-fate.auto.output, c.requires.lift_scratch.output_words)))
+    in
+    omega (arith, came_out.1, length-take-le (5 * c.in-Lifted.tokens) c.judge-fate.new.output (omega (arith, came_out.1, c.judge-fate.auto.output, c.requires.lift_scratch.output_words)), c.requires.list_len_bound.3)
 
 pub returns-in-Same : goal.returns-in-Same
 returns-in-Same c =
@@ -42,9 +27,13 @@ returns-in-Same c =
 
 pub returns-in-Lifted : goal.returns-in-Lifted
 returns-in-Lifted c =
+    let came_out : (lift_of (engine_of c.args.opener) (engine_of c.args.to) c.args.list.now ≡ lifted (take (5 * c.in-Lifted.tokens) c.judge-fate.new.output))
+        × (5 * c.in-Lifted.tokens ≤ 20480) =
+    (let h = rw c.in-Lifted.is at c.judge-fate.ensures in (h.0, omega (arith, h.1, c.judge-fate.auto.output, c.requires.lift_scratch.output_words)))
+    in
     let a = c.args in
-    let parts = listed (omega (arith, slice_bounds-put_list-end-in-Lifted c.before.before.before, (came-out c.before.before.before.before.before).1))
-    (carried-lifted a.opener a.to a.list.now c.requires.list_len_bound.1 _ (came-out c.before.before.before.before.before).0) c.put_list-in-Lifted.ensures in
+    let parts = listed (omega (arith, length-take-le (5 * c.in-Lifted.tokens) c.judge-fate.new.output (omega (arith, came_out.1, c.judge-fate.auto.output, c.requires.lift_scratch.output_words)), came_out.1))
+    (carried-lifted a.opener a.to a.list.now c.requires.list_len_bound.1 _ came_out.0) c.put_list-in-Lifted.ensures in
     record { upper_bound = parts.0; wrote = parts.1 }
 
 pub returns-in-Behind : goal.returns-in-Behind
@@ -57,4 +46,8 @@ returns-in-Behind c =
 
 pub overflow_mul-end : goal.overflow_mul-end
 overflow_mul-end c =
-    omega (arith, (came-out c.before).1)
+    let came_out : (lift_of (engine_of c.args.opener) (engine_of c.args.to) c.args.list.now ≡ lifted (take (5 * c.in-Lifted.tokens) c.judge-fate.new.output))
+        × (5 * c.in-Lifted.tokens ≤ 20480) =
+    (let h = rw c.in-Lifted.is at c.judge-fate.ensures in (h.0, omega (arith, h.1, c.judge-fate.auto.output, c.requires.lift_scratch.output_words)))
+    in
+    omega (arith, came_out.1)

@@ -9,20 +9,6 @@ use Rattle.liftlists.specs.declared.{step.Stage.{Stage}, feed.Room.TheVariants.{
 use Rattle.liftlists.specs.{Steps.{LiftScratch, Fine, held_in}, Going.{FileGoes, file_from, yet, Spilled}}
 use Rattle.liftlists.proofs.{GoingLaws.{reached_then, word-goes, scratch-kept}}
 use Rattle.liftlists.proofs.feed.feed.Goals as goal
-use Rattle.liftlists.proofs.feed.feed.Lts as lts
-use Rattle.liftlists.proofs.feed.feed.Tie as tie
-use Rattle.liftlists.proofs.feed.feed.Reads as reads
-
--- Where the words up to `i` led to, from the place where the chunk began.
-pub record Sofar (to : ℕ) (here : List ℕ → List ℕ) (chunk list out tree again work output : List ℕ) (then : Stage) (end i : ℕ) : Type 0 where
-  pub within : i ≤ length chunk
-  pub whole : i % 4 ≡ 0
-  pub lists : length list ≡ 20480
-  pub outs : length out ≡ 262144
-  pub scratch : LiftScratch tree again work output
-  pub laid : end ≤ 147463
-  pub fine : Fine then list
-  pub goes : FileGoes here (take i chunk) (yet to (held_in then list) out end)
 
 pub loop-i-init : goal.loop-i-init
 loop-i-init g c =
@@ -86,38 +72,36 @@ pub bounds-chunk-i-in-loop-i-3 : goal.bounds-chunk-i-in-loop-i-3
 bounds-chunk-i-in-loop-i-3 g c = omega (arith, c.loop-i-test.true)
 
 -- What is laid before the word, and that the rest was handed over.
-spilled : (c : (lts.After-room tie.the-claims reads.Pre reads.Post goal.the-invariant-loop-i goal.the-decreases-loop-i tie.handed_clauses)) → Spilled (At c.in-At.start) c.loop-i.out c.loop-i.end
-spilled g c = rw c.in-At.is at c.spill-room.ensures
-
 pub take_word-step-requires : goal.take_word-step-requires
 take_word-step-requires g c =
-    record { list_len = (c.loop-i.invariant.lists, c.requires.list_len.1, omega (arith, (spilled c.before.before.before.before.before.before.before.before.before.before.before.before).0, c.loop-i.invariant.outs)); lift_scratch = c.loop-i.invariant.scratch; fine = c.loop-i.invariant.fine }
+    let spilled : Spilled (At c.in-At.start) c.loop-i.out c.loop-i.end = rw c.in-At.is at c.spill-room.ensures in
+    record { list_len = (c.loop-i.invariant.lists, c.requires.list_len.1, omega (arith, spilled.0, c.loop-i.invariant.outs)); lift_scratch = c.loop-i.invariant.scratch; fine = c.loop-i.invariant.fine }
 
 pub overflow_add-i-in-loop-i-3 : goal.overflow_add-i-in-loop-i-3
 overflow_add-i-in-loop-i-3 g c =
-    omega (arith, c.before.before.before.before.before.before.before.before.before.before.before.before.before.before.before.before.before.before.before.before.before.before.before.before.before.before.before.before.before.before.before.before.before.before.before.before.before.before, c.loop-i-test.true)
+    omega (arith, c.loop-i-test.true)
 
 pub loop-i-smaller : goal.loop-i-smaller
 loop-i-smaller g c = omega (arith, c.loop-i-test.true)
 
 pub loop-i-preserved : goal.loop-i-preserved
 loop-i-preserved g c =
+    let spilled : Spilled (At c.in-At.start) c.loop-i.out c.loop-i.end = rw c.in-At.is at c.spill-room.ensures in
     let inv = c.loop-i.invariant in
     let chunk = c.args.chunk.now in
     let turn : c.loop-i.i + 4 ≤ length chunk = omega (arith, c.loop-i-test.true, inv.within) in
     let took = c.take_word-step in
-    let back = took.auto.1.1.1.1.1.1 in
     let word = rw c.word_of-w.ensures at took.ensures in
     record {
       within = turn;
       whole = omega (arith, inv.whole);
-      lists = took.auto.1.0 ∙ inv.lists;
-      outs = took.auto.1.1.1.1.0 ∙ inv.outs;
-      scratch = scratch-kept inv.scratch back.0 back.1.0 back.1.1.0 back.1.1.1.0;
-      laid = omega (arith, took.ensures.few, (spilled c.before.before.before.before.before.before.before.before.before.before.before.before.before.before.before.before.before.before.before.before.before.before.before.before.before).0);
+      lists = took.auto.list ∙ inv.lists;
+      outs = took.auto.out ∙ inv.outs;
+      scratch = scratch-kept inv.scratch took.auto.tree took.auto.again took.auto.work took.auto.output;
+      laid = omega (arith, took.ensures.few, spilled.0);
       fine = took.ensures.fine;
       goes = word-goes c.args.to (held_in c.loop-i.then c.loop-i.list) c.loop-i.out c.loop-i.end c.in-At.start
-          chunk c.loop-i.i turn (omega (arith, (spilled c.before.before.before.before.before.before.before.before.before.before.before.before.before.before.before.before.before.before.before.before.before.before.before.before.before).0, inv.outs)) inv.goes ((spilled c.before.before.before.before.before.before.before.before.before.before.before.before.before.before.before.before.before.before.before.before.before.before.before.before.before).1 (file_from c.args.to (held_in c.loop-i.then c.loop-i.list)))
+          chunk c.loop-i.i turn (omega (arith, spilled.0, inv.outs)) inv.goes (spilled.1 (file_from c.args.to (held_in c.loop-i.then c.loop-i.list)))
           word;
     }
 

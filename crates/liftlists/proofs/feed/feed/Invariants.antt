@@ -1,20 +1,13 @@
--- `liftlists::feed::feed` meets its contract. The invariant: the chunk's bytes up to `i` lead from where the chunk began to here. Assumes
-use Prim.Native.Nat.{ℕ, ◌+◌, ◌-◌, ◌%◌, ◌≤◌}
-use mathlib.Core.{Path.{◌≡◌, refl, sym, ◌∙◌}, List.{List, []}}
-use native.Mathlib.Omega.{arith}
-use lib.{ListN.{length, take}, Seq.{take_all}}
-use borrow.Author.Rules.{rules}
-use Rattle.liftlists.specs.declared.{step.Stage.{Stage}, feed.Room.TheVariants.{At}}
-use Rattle.liftlists.specs.{Steps.{LiftScratch, Fine, held_in}, Going.{FileGoes, file_from, yet, Spilled}}
-use Rattle.liftlists.proofs.{GoingLaws.{reached_then, word-goes, scratch-kept}}
+-- `liftlists::feed::feed`: between two words. The measure is what is left of the chunk.
+use Rattle.std.proofs.Common.{length, ◌-◌}
+use Rattle.liftlists.specs.{Steps.{held_in}, Going.{yet}}
+use Rattle.liftlists.proofs.RunLaws.{BetweenWords}
 use Rattle.liftlists.proofs.feed.feed.Given as goal
 
--- LEFT: 21 names for 22
 abbrev pub invariant-loop-i : goal.invariant-loop-i
 invariant-loop-i g l =
-    Sofar l.chunk (yet l.chunk (held_in l.initial.output l.rt) l.to l.initial.then) l.initial.list l.initial.i l.list l.out l.tree l.again l.work l.output l.then l.end
+    BetweenWords l.to (yet l.to (held_in l.initial.then l.initial.list) l.initial.out l.initial.end) l.chunk l.list l.out l.tree l.again l.work
+    l.output l.then l.end l.i
 
--- LEFT: 21 names for 22
 abbrev pub decreases-loop-i : goal.decreases-loop-i
-decreases-loop-i g l =
-    length l.initial.list - l.end
+decreases-loop-i g l = length l.chunk - l.i

@@ -3,7 +3,7 @@ use Prim.Native.Nat.{ℕ, ◌+◌, ◌*◌, ◌/◌}
 use mathlib.Core.{Path.{◌≡◌, refl, sym, ap, ◌∙◌}, List.{List}}
 use native.Mathlib.Omega.{arith}
 use lib.{IntN.{ℤ}, Seq.{length-take-le}}
-use mir.Facts.{to_z-of_z}
+use mir.{Syntax.{w16}, Facts.{to_z-of_z}}
 use Rattle.molang.specs.Lift.{lift_of}
 use Rattle.lift.specs.Answers.{engine}
 use Rattle.liftlists.specs.{LiftedFile.{engine_of}, Steps.{fate_told, HasFate}}
@@ -39,9 +39,9 @@ returns c =
       work_words = length-take-le _ _ (omega (arith, c.requires.list_len_bound.0, c.requires.lift_scratch.work_words));
       output_words = c.requires.lift_scratch.output_words;
     })
-    c.lift-outcome.auto.output a.from a.to (ap (λ (v : ℤ). engine v 4096) (to_z-of_z (record { sfits = c.version_of.type_inv }) ∙ c.version_of.ensures))
+    c.lift-outcome.auto.output a.from a.to (ap (λ (v : ℤ). engine v 4096) (to_z-of_z {w = w16} {z = c.version_of.result} (record { sfits = c.version_of.type_inv }) ∙ c.version_of.ensures))
     (ap (λ (v : ℤ). engine v 4096)
-    (to_z-of_z (record { sfits = c.version_of-2.type_inv }) ∙ c.version_of-2.ensures)))
+    (to_z-of_z {w = w16} {z = c.version_of-2.result} (record { sfits = c.version_of-2.type_inv }) ∙ c.version_of-2.ensures)))
 
 pub returns-then-list-ne0 : goal.returns-then-list-ne0
 returns-then-list-ne0 c =
