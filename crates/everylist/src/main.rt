@@ -15,8 +15,8 @@ ghost use Rattle.everylist.specs.Input.{Came, OfInput, AllHanded};
 
 use crate::read::read_rest;
 use crate::step::{Step, step_at};
-use libc::{STDERR_FILENO, STDOUT_FILENO};
 use listing::bytes::words_of;
+use std::io::{Read, Write, writer};
 use streams::{End, fill};
 use text::put_bytes;
 
@@ -31,14 +31,21 @@ enum Printed {
 }
 
 // Hands a text to `write`: it is the one at this position.
-fn hand(text: &[u8], words: &[u32], bytes: usize, fine: bool, position: u64) -> bool
+fn hand<W: Write>(
+    to: &mut W,
+    text: &[u8],
+    words: &[u32],
+    bytes: usize,
+    fine: bool,
+    position: u64,
+) -> bool
     requires { text_at (kept bytes words.now fine) position ≡ some text.now }
 {
-    io::write_all(STDOUT_FILENO, text)
+    to.write_all(text).is_ok()
 }
 
 // Prints the text at each position, up to the end, which is within 299,594 positions: there are no more lists of 8 letters to length 6.
-fn print(words: &[u32], bytes: usize, fine: bool) -> Printed
+fn print<W: Write>(to: &mut W, words: &[u32], bytes: usize, fine: bool) -> Printed
     requires { (length words.now ≡ 11) × OfInput (kept bytes words.now fine) }
     ensures { AllHanded (kept bytes words.now fine) result }
 {
@@ -49,7 +56,7 @@ fn print(words: &[u32], bytes: usize, fine: bool) -> Printed
         let Step::Text(n) = stepped else {
             return Printed::All(position);
         };
-        if !hand(&out[..n], words, bytes, fine, position) {
+        if !hand(to, &out[..n], words, bytes, fine, position) {
             return Printed::Failed;
         }
         position += 1;
@@ -57,50 +64,52 @@ fn print(words: &[u32], bytes: usize, fine: bool) -> Printed
 }
 
 // A line on standard error; nothing more is printed.
-fn fail(line: &[u8]) {
-    io::write_all(STDERR_FILENO, line);
+fn fail<E: Eprint>(rt: &E, line: &str) {
+    let _ = rt.eprintln(line);
 }
 
 // Answers an input of so many bytes, of which the front came, and behind it words that are fine or not.
-fn answer(front: &[u8], bytes: usize, fine: bool)
+fn answer<S: Print + Eprint>(rt: &S, front: &[u8], bytes: usize, fine: bool)
     requires { Came front.now bytes fine }
 {
     let mut whole = [0u8; 44];
     put_bytes(&mut whole, 0, front);
     let mut words = [0u32; 11];
     words_of(&whole, &mut words);
-    let printed = print(&words, bytes, fine);
+    let mut to = writer(rt);
+    let printed = print(&mut to, &words, bytes, fine);
     match printed {
         Printed::All(_) => {}
-        Printed::Failed => fail(b"everylist: a write failed, and the text is not whole\n"),
+        Printed::Failed => fail(rt, "everylist: a write failed, and the text is not whole"),
     }
 }
 
-fn unread() {
-    fail(b"everylist: a read failed, and nothing is printed\n");
+fn unread<E: Eprint>(rt: &E) {
+    fail(rt, "everylist: a read failed, and nothing is printed");
 }
 
 // The input has a whole front: what comes behind it.
-fn go_on(front: &[u8])
+fn go_on<R: Read, S: Print + Eprint>(input: &mut R, rt: &S, front: &[u8])
     requires { length front.now ≡ 44 }
 {
     let mut space = io::large_buffer();
-    let rest = read_rest(&mut space);
+    let rest = read_rest(input, &mut space);
     let end = rest.end;
     match end {
-        End::Ended => answer(front, FRONT + rest.bytes, rest.fine),
-        End::Full | End::Failed => unread(),
+        End::Ended => answer(rt, front, FRONT + rest.bytes, rest.fine),
+        End::Full | End::Failed => unread(rt),
     }
 }
 
-fn main() {
+fn main(rt: HostRuntime) {
+    let mut input = rt.stdin();
     let mut front = [0u8; 44];
-    let came = fill(&mut front);
+    let came = fill(&mut input, &mut front);
     let n = came.bytes;
     let end = came.end;
     match end {
-        End::Full => go_on(&front),
-        End::Ended => answer(&front[..n], n, true),
-        End::Failed => unread(),
+        End::Full => go_on(&mut input, &rt, &front),
+        End::Ended => answer(&rt, &front[..n], n, true),
+        End::Failed => unread(&rt),
     }
 }

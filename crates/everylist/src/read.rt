@@ -4,6 +4,7 @@ ghost use Rattle.std.specs.Prelude.{◌≡◌, ◌+◌, ◌^◌, ◌<◌, length
 ghost use Rattle.everylist.specs.Input.{Onward, RestRead};
 
 use crate::kept::fine_words;
+use std::io::Read;
 use streams::{End, fill};
 
 // How often the rest of an input is read on. A proved loop has to end, and nothing says that an input does: no run uses this up.
@@ -20,11 +21,11 @@ pub struct Rest {
 }
 
 // One chunk more, which lies in front of the space. `read_rest` has room for its length.
-fn read_on(rest: Rest, space: &mut [u8]) -> Rest
+fn read_on<R: Read>(input: &mut R, rest: Rest, space: &mut [u8]) -> Rest
     requires { (length space.old ≡ 65536) × (rest.bytes + 65536 < 2 ^ 64) }
     ensures { Onward rest space.new result }
 {
-    let came = fill(space);
+    let came = fill(input, space);
     let last = came.bytes;
     let fine = fine_words(&space[..last]);
     let end = came.end;
@@ -37,7 +38,7 @@ fn read_on(rest: Rest, space: &mut [u8]) -> Rest
 }
 
 // Reads on as long as chunks fill the space, which `main` lends.
-pub fn read_rest(space: &mut [u8]) -> Rest
+pub fn read_rest<R: Read>(input: &mut R, space: &mut [u8]) -> Rest
     requires { length space.old ≡ 65536 }
     ensures { RestRead space.new result }
 {
@@ -50,7 +51,7 @@ pub fn read_rest(space: &mut [u8]) -> Rest
     let mut turns = TURNS;
     while 0 < turns {
         turns -= 1;
-        let next = read_on(rest, space);
+        let next = read_on(input, rest, space);
         let end = next.end;
         let End::Full = end else {
             return next;

@@ -1,7 +1,6 @@
 -- What a failure of the code tells: the messages that it stands for, each about the tokens in the failure's slots.
 use Rattle.std.specs.Prelude.{ℕ, List, [], ◌∷◌}
 use Rattle.molang.specs.Forest.{Token}
-use Rattle.molang.specs.Message
 use Rattle.molang.specs.Message.{Message}
 use Rattle.nodes.specs.Store.{TokenAt}
 use Rattle.levels.specs.declared.failure.Failure.{Failure}

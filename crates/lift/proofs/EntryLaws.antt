@@ -1,10 +1,10 @@
 -- The entry of the lift: where it is turned back, that this changes nothing, and that what it tells of every other call is the definition's
 -- lift. Assumes nothing.
-use Prim.Native.Nat.{ℕ, ◌*◌, ◌/◌, ◌%◌, ◌≤◌, ◌<◌, min}
-use mathlib.Core.{Path.{◌≡◌, refl, sym, ap, ◌∙◌, subst}, Bool.{Bool, true, false, ◌&&◌}, List.{List, [], ◌∷◌}, Option.{Option, none, some}}
+use Prim.Native.Nat.{ℕ, ◌/◌, ◌%◌, ◌≤◌, ◌<◌, min}
+use mathlib.Core.{Path.{◌≡◌, refl, sym, ap, ◌∙◌, subst}, List.{List, [], ◌∷◌}, Option.{Option, none, some}}
 use native.Mathlib.Omega.{arith}
-use lib.{Dec.{eqb, leb}, ListN.{length, take}}
-use borrow.Author.Tests.{eq-eqb, leb-true, le-leb, lt-leb}
+use lib.{Dec.{eqb, leb}, ListN.{length}}
+use borrow.Author.Tests.{eq-eqb, le-leb, lt-leb}
 use Rattle.molang.specs.{FirstFailure.{must, first_of}, Nesting.{too_deep}, Parse.{most_tokens, is_limit, answered, told, refusal}}
 use Rattle.molang.specs.Parse.{tree_after, tree_in, messages_after, messages_in, work_after, work_in}
 use Rattle.molang.specs.{Words.{Refusal, row, with_number, operator_field, words_refusal, tokens_of}, Lift.{behind, lift_refusal, lift_of}}
@@ -18,7 +18,7 @@ use Rattle.lift.specs.{Lifting.{stopped, of_output, is_same, is_lifted, is_messa
 use Rattle.lift.specs.Answers.{lift_told, HasLifted}
 use Rattle.lift.specs.Entry.{LotTold, lot_of, or_turned, turned_back, entry_refusal, entry_told, entry_left, lot_lift, turned_by, CanTell}
 use Rattle.lift.specs.Entry.{kept_or, behind_by, behind_as, HasEntered}
-use Rattle.lift.proofs.Lifted.{limit-rows, after-rows, rooms, first-refusal, lift-is}
+use Rattle.lift.proofs.Lifted.{limit-rows, after-rows, rooms, first-refusal}
 
 -- ---- Where it is turned back
 

@@ -1,6 +1,6 @@
 -- The lift as the library exports it: where a call is turned back, by the table's order and before anything is changed; and what is told
 -- of every other call, with the list that a place is of.
-use Rattle.std.specs.Prelude.{ℕ, ◌*◌, min, ◌≡◌, List, [], ◌∷◌, leb, length, take}
+use Rattle.std.specs.Prelude.{ℕ, ◌*◌, ◌≡◌, List, [], ◌∷◌, leb, length, take}
 use Rattle.std.proofs.Math.Option.{Option, none, some}
 use Rattle.molang.specs.FirstFailure.{must, first_of}
 use Rattle.molang.specs.Words.{Refusal, row, tokens_of}

@@ -18,7 +18,7 @@ ghost use Rattle.liftcount.specs.Steps.{Reached, Came, IsPrinted};
 use crate::feed::feed;
 use crate::finish::finish;
 use crate::run::{Counts, Run, Stage};
-use libc::{STDERR_FILENO, STDOUT_FILENO};
+use std::io::Read;
 use streams::{End, fill};
 
 // How often a chunk is read. A proved loop has to end, and nothing says that an input does: no run uses this up.
@@ -52,12 +52,12 @@ struct Reading {
 }
 
 // One chunk more, which lies in front of the space.
-fn read_on(run: Run, list: &mut [u32], space: &mut [u8]) -> Reading
+fn read_on<R: Read>(input: &mut R, run: Run, list: &mut [u32], space: &mut [u8]) -> Reading
     requires { (length list.old ≡ 640) × (length space.old ≡ 65536) }
     ensures last_in_bounds { result.last ≤ length space.new }
     ensures list_after { state_of result.run list.new ≡ fed (state_of run list.old) (take result.last space.new) }
 {
-    let came = fill(space);
+    let came = fill(input, space);
     let last = came.bytes;
     let run = feed(run, list, &space[..last]);
     let end = came.end;
@@ -65,7 +65,7 @@ fn read_on(run: Run, list: &mut [u32], space: &mut [u8]) -> Reading
 }
 
 // Reads on as long as chunks fill the space; what the input came to. `main` lends both buffers.
-fn read_input(list: &mut [u32], space: &mut [u8]) -> Reading
+fn read_input<R: Read>(input: &mut R, list: &mut [u32], space: &mut [u8]) -> Reading
     requires { (length list.old ≡ 640) × (length space.old ≡ 65536) }
     ensures { Reached list.old space.new result.last (state_of result.run list.new) }
 {
@@ -73,7 +73,7 @@ fn read_input(list: &mut [u32], space: &mut [u8]) -> Reading
     let mut turns = TURNS;
     while 0 < turns {
         turns -= 1;
-        let next = read_on(run, list, space);
+        let next = read_on(input, run, list, space);
         let end = next.end;
         let End::Full = end else {
             return next;
@@ -88,36 +88,37 @@ fn read_input(list: &mut [u32], space: &mut [u8]) -> Reading
 }
 
 // A line on standard error; nothing more is printed.
-fn fail(line: &[u8]) {
-    io::write_all(STDERR_FILENO, line);
+fn fail<E: Eprint>(rt: &E, line: &str) {
+    let _ = rt.eprintln(line);
 }
 
 // Hands a text to `write`: it is what is printed for an input.
-fn hand(text: &[u8])
+fn hand<S: Print + Eprint>(rt: &S, text: &[u8])
     requires { IsPrinted text.now }
 {
-    if !io::write_all(STDOUT_FILENO, text) {
-        fail(b"liftcount: a write failed, and the text is not whole\n");
+    if rt.write_all(text).is_err() {
+        fail(rt, "liftcount: a write failed, and the text is not whole");
     }
 }
 
 // Prints what an input came to that has ended.
-fn answer(run: Run, list: &[u32])
+fn answer<S: Print + Eprint>(rt: &S, run: Run, list: &[u32])
     requires { (length list.now ≡ 640) × Came (state_of run list.now) }
 {
     let mut out = [0u8; 128];
     let n = finish(run, list, &mut out);
-    hand(&out[..n]);
+    hand(rt, &out[..n]);
 }
 
-fn main() {
+fn main(rt: HostRuntime) {
+    let mut input = rt.stdin();
     let mut list = [0u32; 640];
     let mut space = io::large_buffer();
-    let reading = read_input(&mut list, &mut space);
+    let reading = read_input(&mut input, &mut list, &mut space);
     let run = reading.run;
     let end = reading.end;
     match end {
-        End::Ended => answer(run, &list),
-        End::Full | End::Failed => fail(b"liftcount: a read failed, and nothing is counted\n"),
+        End::Ended => answer(&rt, run, &list),
+        End::Full | End::Failed => fail(&rt, "liftcount: a read failed, and nothing is counted"),
     }
 }

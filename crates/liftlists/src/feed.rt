@@ -26,21 +26,22 @@ enum Room {
 }
 
 // Hands over what is laid, if that is enough.
-fn spill(out: &[u8], at: usize) -> Room
+fn spill<P: Print>(rt: &P, out: &[u8], at: usize) -> Room
     requires { (at ≤ length out.now) × IsNextPiece (take at out.now) }
     ensures { Spilled result out.now at }
 {
     if at < ENOUGH {
         return Room::At(at);
     }
-    if hand(&out[..at]) {
+    if hand(rt, &out[..at]) {
         return Room::At(0);
     }
     Room::Failed
 }
 
 // The words of a chunk, which `carry` has cut behind the last whole one. The buffers are of the lengths that `lift_file` gives them.
-pub(crate) fn feed(
+pub(crate) fn feed<P: Print>(
+    rt: &P,
     stage: Stage,
     list: &mut [u32],
     chunk: &[u8],
@@ -63,7 +64,7 @@ pub(crate) fn feed(
     let mut end = at;
     let mut i = 0usize;
     while 4 <= chunk.len() - i {
-        let room = spill(out, end);
+        let room = spill(rt, out, end);
         let Room::At(start) = room else {
             return Fed::Failed;
         };

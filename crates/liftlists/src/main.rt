@@ -18,6 +18,7 @@ use crate::feed::{Fed, feed};
 use crate::hand::{hand_last, unread, unwritten};
 use crate::step::{Stage, close_last};
 use listing::bytes::word_of;
+use std::io::Read;
 use streams::{End, fill};
 use text::put_bytes;
 
@@ -28,7 +29,8 @@ const TURNS: usize = 1_099_511_627_776;
 const PAST_VERSIONS: u32 = 65_536;
 
 // The input has ended: the list that is kept, and the bytes behind the last whole word. `read_on` leaves at most three of these.
-fn finish(
+fn finish<S: Print + Eprint>(
+    rt: &S,
     end: End,
     stage: Stage,
     list: &[u32],
@@ -46,12 +48,12 @@ fn finish(
     requires fine { Fine stage list.now × PlaceReached (yet to (held_in stage list.now) out.old at) }
 {
     let End::Ended = end else {
-        unread();
+        unread(rt);
         return;
     };
     let closed = close_last(stage, list, to, out, at, tree, again, work, output);
     let last = put_bytes(out, closed, tail);
-    hand_last(&out[..last]);
+    hand_last(rt, &out[..last]);
 }
 
 // What a chunk led to: where the file goes on, how many bytes are whole words, how many came, and why they were no more.
@@ -64,7 +66,9 @@ struct Turn {
 }
 
 // One chunk more, which lies in front of the space. `lift_file` gives the buffers their lengths, here and below.
-fn read_on(
+fn read_on<R: Read, P: Print>(
+    input: &mut R,
+    rt: &P,
     stage: Stage,
     list: &mut [u32],
     space: &mut [u8],
@@ -83,10 +87,11 @@ fn read_on(
     ensures { ChunkTurned to (yet to (held_in stage list.old) out.old at) result
         space.new list.new out.new }
 {
-    let came = fill(space);
+    let came = fill(input, space);
     let last = came.bytes;
     let whole = last / 4 * 4;
     let fed = feed(
+        rt,
         stage,
         list,
         &space[..whole],
@@ -108,7 +113,9 @@ fn read_on(
 }
 
 // Reads the file chunk by chunk and hands over what it gives.
-fn carry(
+fn carry<R: Read, S: Print + Eprint>(
+    input: &mut R,
+    rt: &S,
     to: u32,
     list: &mut [u32],
     space: &mut [u8],
@@ -127,10 +134,12 @@ fn carry(
     let mut turns = TURNS;
     while 0 < turns {
         turns -= 1;
-        let next = read_on(stage, list, space, to, out, at, tree, again, work, output);
+        let next = read_on(
+            input, rt, stage, list, space, to, out, at, tree, again, work, output,
+        );
         let fed = next.fed;
         let Fed::On(then, laid) = fed else {
-            unwritten();
+            unwritten(rt);
             return;
         };
         let end = next.end;
@@ -138,6 +147,7 @@ fn carry(
             let whole = next.whole;
             let last = next.last;
             finish(
+                rt,
                 end,
                 then,
                 list,
@@ -155,11 +165,11 @@ fn carry(
         stage = then;
         at = laid;
     }
-    unread();
+    unread(rt);
 }
 
 // Lifts the file behind a version word.
-fn lift_file(to: u32)
+fn lift_file<R: Read, S: Print + Eprint>(input: &mut R, rt: &S, to: u32)
     requires { (to < 2 ^ 16) × PlaceReached (file_from to []) }
 {
     let mut list = [0u32; 20_480];
@@ -170,6 +180,8 @@ fn lift_file(to: u32)
     let mut work = [0u32; 262_208];
     let mut output = [0u32; 20_480];
     carry(
+        input,
+        rt,
         to,
         &mut list,
         &mut space,
@@ -182,28 +194,29 @@ fn lift_file(to: u32)
 }
 
 // The first bytes of the input, which are a version word or not; `main` reads no more than four.
-fn begin(first: &[u8])
+fn begin<R: Read, S: Print + Eprint>(input: &mut R, rt: &S, first: &[u8])
     requires { length first.now ≤ 4 }
 {
     if first.len() < 4 {
-        hand_last(b"refused 8 0\n");
+        hand_last(rt, b"refused 8 0\n");
         return;
     }
     let to = word_of(first[0], first[1], first[2], first[3]);
     if to < PAST_VERSIONS {
-        lift_file(to);
+        lift_file(input, rt, to);
         return;
     }
-    hand_last(b"refused 8 0\n");
+    hand_last(rt, b"refused 8 0\n");
 }
 
-fn main() {
+fn main(rt: HostRuntime) {
+    let mut input = rt.stdin();
     let mut first = [0u8; 4];
-    let came = fill(&mut first);
+    let came = fill(&mut input, &mut first);
     let n = came.bytes;
     let end = came.end;
     match end {
-        End::Full | End::Ended => begin(&first[..n]),
-        End::Failed => unread(),
+        End::Full | End::Ended => begin(&mut input, &rt, &first[..n]),
+        End::Failed => unread(&rt),
     }
 }

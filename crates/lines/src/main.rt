@@ -7,23 +7,22 @@
 
 ghost use Rattle.std.specs.Prelude.{◌≤◌, length};
 
-use libc::{STDERR_FILENO, STDOUT_FILENO};
 use molang::lines::TREE;
 use table::next_mark;
 use table::said::table;
 use verdicts::{Verdict, run_line};
 
 // Writes a text; whether it was taken, here and below.
-fn say(text: &[u8]) -> bool {
-    io::write_all(STDOUT_FILENO, text)
+fn say<P: Print>(rt: &P, text: &[u8]) -> bool {
+    rt.write_all(text).is_ok()
 }
 
 // Writes whether a line is answered as it says.
-fn say_verdict(verdict: Verdict) -> bool {
+fn say_verdict<P: Print>(rt: &P, verdict: Verdict) -> bool {
     match verdict {
-        Verdict::Same => say(b": ok\n"),
-        Verdict::Answer => say(b": another answer\n"),
-        Verdict::Words => say(b": other words\n"),
+        Verdict::Same => say(rt, b": ok\n"),
+        Verdict::Answer => say(rt, b": another answer\n"),
+        Verdict::Words => say(rt, b": other words\n"),
     }
 }
 
@@ -64,28 +63,28 @@ fn behind(text: &[u8], end: usize) -> usize
 }
 
 // Writes a line: its text, and whether it is answered as it says.
-fn say_line(text: &[u8], verdict: Verdict) -> bool {
-    if !say(text) {
+fn say_line<P: Print>(rt: &P, text: &[u8], verdict: Verdict) -> bool {
+    if !say(rt, text) {
         return false;
     }
-    say_verdict(verdict)
+    say_verdict(rt, verdict)
 }
 
-fn say_totals(count: u64, others: u64) -> bool {
-    if !io::print_decimal(STDOUT_FILENO, count) {
+fn say_totals<P: Print>(rt: &P, count: u64, others: u64) -> bool {
+    if rt.print(count).is_err() {
         return false;
     }
-    if !say(b" lines, ") {
+    if !say(rt, b" lines, ") {
         return false;
     }
-    if !io::print_decimal(STDOUT_FILENO, others) {
+    if rt.print(others).is_err() {
         return false;
     }
-    say(b" differ\n")
+    say(rt, b" differ\n")
 }
 
 // Runs every line of the table; each has a line of text.
-fn run(numbers: &[u32], text: &[u8]) -> bool {
+fn run<P: Print>(rt: &P, numbers: &[u32], text: &[u8]) -> bool {
     let mut start = 0usize;
     let mut from = 0usize;
     let mut count = 0u64;
@@ -94,7 +93,7 @@ fn run(numbers: &[u32], text: &[u8]) -> bool {
         let end = next_mark(numbers, start + 1, TREE);
         let verdict = run_line(&numbers[start..end]);
         let stop = line_end(text, from);
-        if !say_line(&text[from..stop], verdict) {
+        if !say_line(rt, &text[from..stop], verdict) {
             return false;
         }
         from = behind(text, stop);
@@ -102,17 +101,14 @@ fn run(numbers: &[u32], text: &[u8]) -> bool {
         count += 1;
         start = end;
     }
-    say_totals(count, others)
+    say_totals(rt, count, others)
 }
 
-fn main() {
+fn main(rt: HostRuntime) {
     let table = table();
     let numbers = table.numbers;
     let text = table.text;
-    if !run(&numbers, &text) {
-        io::write_all(
-            STDERR_FILENO,
-            b"lines: a write failed, and the text is not whole\n",
-        );
+    if !run(&rt, &numbers, &text) {
+        let _ = rt.eprintln("lines: a write failed, and the text is not whole");
     }
 }

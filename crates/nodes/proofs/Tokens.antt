@@ -1,6 +1,6 @@
 -- A slot's five token words, said of its token: what the fields are read from, that the words say which token it is, and what becomes of
 -- the token where some of the words are written.
-use Prim.Native.Nat.{ℕ, zero, suc, ◌+◌, ◌*◌, ◌/◌, ◌%◌, ◌^◌, ◌≤◌, ◌<◌}
+use Prim.Native.Nat.{ℕ, zero, suc, ◌+◌, ◌%◌, ◌^◌, ◌≤◌, ◌<◌}
 use mathlib.Core.{Path.{◌≡◌, sym, ap, ◌∙◌}, Bool.{false}, List.{List}}
 use native.Mathlib.{Omega.{arith}, Nat.{add-zero}}
 use lib.{Dec.{eqb}, ListN.{length, get_or, set}}

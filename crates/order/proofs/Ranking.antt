@@ -18,7 +18,7 @@ use Rattle.ops.proofs.{ClassLaws.{stands_for_only, stands-for-only}, SetLaws.{ma
 use Rattle.levels.specs.declared.turns.Pass.{Pass as State}
 use Rattle.levels.specs.declared.turns.Pass.TheVariants.{Calls, MathCalls, Unsplit, Split, Arrays, Unary, Binary, Conditional, Returns}
 use Rattle.levels.specs.contracts.turns.Pass.{the_type}
-use Rattle.order.specs.{declared.Choice.{Choice}, declared.Choice.TheVariants.{Run, Skip}, declared.Rank.{Rank}}
+use Rattle.order.specs.{declared.Choice.TheVariants.{Run, Skip}, declared.Rank.{Rank}}
 use Rattle.order.specs.Ranks.{used_by, rules_at, later, Starts, call, unsplit_pass, array, math_call, unary, conditional_pass, return_pass}
 use Rattle.order.specs.Ranks.{point, plus, level, call_gate, is_open, is_used, AtRank, past, first, unranked, Ranked, Chosen, over}
 use Rattle.order.specs.Ranks.{unused, used}

@@ -21,7 +21,6 @@ use Rattle.levels.specs.{declared.failure.Failure.TheVariants.{BinaryAtEnd}, dec
 use Rattle.levels.specs.{declared.turns.Turn.{Turn}, declared.turns.Turn.TheVariants.{On, Enter, Fail}}
 use Rattle.levels.proofs.Reading.{back-array-keep, ahead-keep, ahead-le, ahead-end, array-put, AheadTo, item, ahead-item, inner-tree}
 use Rattle.levels.proofs.{Reading.{tree_free, free-tree-below, same-within}, States.{sides-of}}
-use Rattle.levels.specs.Failures
 use Rattle.passes.specs.TokenTurns.{AtItem, AtToken, LevelTurned, Saying}
 use Rattle.passes.specs.Binary.{left_of, CanFold, Folded, CanSearch, LeafFound, CanOperate, Operated, opens, folds}
 use Rattle.passes.proofs.GatherLaws.{next-room, walk-node, walk-passed, LeftLevel, item-bounds, item-holds, kept-within, Stands}

@@ -21,7 +21,6 @@ use Rattle.levels.specs.{declared.turns.Pass.{Pass}, declared.turns.Pass.TheVari
 use Rattle.levels.specs.declared.turns.Turn.TheVariants.{On, Enter, Fail}
 use Rattle.levels.proofs.Reading.{can-peek, unfree-leaf, tree_free, tree-unfree, unfree-tree, free-tree-below, NextTo, ended, differs}
 use Rattle.levels.proofs.{Reading.{found, next-to, same-within}, PassClasses.{runs-covers}, States.{sides-of}}
-use Rattle.levels.specs.Failures
 use Rattle.passes.specs.{TokenTurns.{AtItem, AtToken, unasked, CallTurned, Saying}, Calls.{CanCall, Called, opens, stays}}
 use Rattle.passes.proofs.GatherLaws.{token-room, next-room, walk-node, walk-passed, LeftLevel, item-holds, item-waits, kept-within}
 use Rattle.passes.proofs.GatherLaws.{Attaching, attached, item-attached, within-then, Stands, stands, Standing}

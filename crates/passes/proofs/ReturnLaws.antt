@@ -13,7 +13,6 @@ use Rattle.levels.specs.{Turns.{Within, TurnTo, goes, fails}, declared.turns.Pas
 use Rattle.levels.specs.{declared.turns.Turn.TheVariants.{On, Fail}, declared.failure.Failure.TheVariants.{UnaryWithoutOperand}}
 use Rattle.levels.specs.Failures.{Tells}
 use Rattle.levels.proofs.{Reading.{ahead-end, same-within}, PassClasses.{runs-covers}, States.{sides-of}}
-use Rattle.levels.specs.Failures
 use Rattle.passes.specs.TokenTurns.{unasked, ReturnTurned, Saying}
 use Rattle.passes.proofs.GatherLaws.{walk-node, walk-passed, LeftLevel, item-holds, kept-within, Attaching, attached, item-attached}
 use Rattle.passes.proofs.GatherLaws.{within-then, Stands, stands, Standing}

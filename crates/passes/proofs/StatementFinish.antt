@@ -4,7 +4,7 @@ use mathlib.Core.{Path.{◌≡◌, refl, sym, ap, ◌∙◌, subst}, Logic.{◌�
 use native.Mathlib.{Omega.{arith}, Nat.{le_refl}}
 use lib.ListN.{length, set}
 use Rattle.molang.specs.{Operator.{semicolon}, Forest.{Token, Forest, nil, node, bare, in_order, count}, Message.{ok}, Level.{walk}}
-use Rattle.molang.specs.{Statements.{unsplit, after, inside, split_of, statement_finish, statement_level}, Free.{is_nil}}
+use Rattle.molang.specs.{Statements.{unsplit, after, split_of, statement_finish, statement_level}, Free.{is_nil}}
 use Rattle.molang.specs.Work.{Kind, statements, State, work}
 use Rattle.nodes.specs.Store.{wd, slot_start, slot_end, TokenAt, SegB, OutFrom, ends as ends_at, RepT, RepB, begins as begins-with, put}
 use Rattle.nodes.specs.{Store.{InArray, Owned, Free}, Children.{CanGive, Given}, declared.frames.List.{List as Items}}

@@ -17,7 +17,7 @@ use Rattle.nodes.specs.{Store.{wd, slot_start, slot_end, InArray, begins as begi
 use Rattle.nodes.specs.{declared.stored.StoredWords.{StoredWords}, declared.frames.List.{List as Items}, Children.{CanGive}}
 use Rattle.nodes.proofs.{Runs.{inc-le, seg-keep}, Store.{tree-below, back-le}, Trees.{token-test}}
 use Rattle.levels.specs.Passes.{walk_of, moved_to, classes_of, operators, Covers, Runs, unsplit_pass, split, waits}
-use Rattle.levels.specs.Items.{BackArray, Ahead, Passed, here, over, tree, Sought}
+use Rattle.levels.specs.Items.{BackArray, Ahead, Passed, here, over, Sought}
 use Rattle.levels.specs.{Sides.{StatementSide, whole, closed, EndedAt, nothing, Holds}, Turns.{SameList, Within, goes, CanStart, Started}}
 use Rattle.levels.specs.{declared.items.Found.{Found}, declared.turns.Pass.{Pass}}
 use Rattle.levels.specs.{declared.turns.Pass.TheVariants.{Unsplit, Split as SplitAt}, declared.turns.Turn.{Turn}}

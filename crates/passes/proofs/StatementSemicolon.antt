@@ -8,7 +8,6 @@ use lib.ListN.{length}
 use Rattle.molang.specs.{Operator.{semicolon}, Forest.{Token, Forest, nil, node, bare, in_order, count, size}, Message.{Message}}
 use Rattle.molang.specs.{Level.{on, stop}, Statements.{after, split_of, end_statement}, Free.{is_nil, is_semicolon}}
 use Rattle.molang.specs.Work.{Kind, statements, State}
-use Rattle.molang.specs.Message
 use Rattle.nodes.specs.Store.{wd, slot_start, slot_end, TokenAt, Out, OutFrom, RepT, RepB, begins as begins-with, put, InArray, Free}
 use Rattle.nodes.{specs.declared.stored.StoredWords.{StoredWords}, specs.Slots.{Laid, Made}, specs.Children.{CanGive}}
 use Rattle.nodes.{specs.declared.frames.List.{List as Items}, proofs.Runs.{seg-keep}, proofs.Tokens.{token-keep, token-made}}

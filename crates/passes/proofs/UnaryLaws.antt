@@ -8,7 +8,7 @@ use Rattle.molang.specs.Operator
 use Rattle.molang.specs.Operator.{operand, operator, minus, unknown, before_minus}
 use Rattle.molang.specs.Forest.{Token, Forest, nil, node, renamed, bare, count, size}
 use Rattle.molang.specs.Message.{Result, fail, negate_without_operand, not_without_operand, unknown_operation}
-use Rattle.molang.specs.{Unary.{Unary, done, minus_after, not_before, unary_leaf, turned, unary, unary_pass}, Order.{apply}}
+use Rattle.molang.specs.{Unary.{done, minus_after, not_before, unary_leaf, turned, unary, unary_pass}, Order.{apply}}
 use Rattle.molang.specs.Free.{free, is_nil, is_prefix}
 use Rattle.molang.specs.Work.{right, before, from_right, work, begins, in_reading, takes, pass_of, pass, unary_minus_and_not, and_then}
 use Rattle.molang.proofs.{Trees.{free-leaf, free-tree}, Booleans.{or-neither}, Unary.{unary-free}}

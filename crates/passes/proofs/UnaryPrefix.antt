@@ -10,7 +10,7 @@ use borrow.Author.Tests.{eq-eqb}
 use Rattle.molang.specs.Operator
 use Rattle.molang.specs.Operator.{operand, operator, minus, unknown, before_minus, any, is_one_of, is_query_or_loop, is_math_call}
 use Rattle.molang.specs.Forest.{Token, Forest, nil, node, renamed, bare, count, size}
-use Rattle.molang.specs.{Message.{fail, negate_without_operand, not_without_operand, unknown_operation}, Free.{is_nil}}
+use Rattle.molang.specs.{Message.{fail, unknown_operation}, Free.{is_nil}}
 use Rattle.molang.specs.Work.{right, unary_minus_and_not, work, from_right}
 use Rattle.ops.specs.{Classes.{pass_classes, own_classes, in_class, bit_at}, Operators.{meant}, declared.BeforeMinus.{BeforeMinus as Before}}
 use Rattle.ops.proofs.OperatorLaws.{agree_at}

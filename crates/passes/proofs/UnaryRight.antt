@@ -4,7 +4,7 @@ use Prim.Native.Nat.{ℕ, ◌+◌, ◌-◌, ◌^◌, ◌≤◌, ◌<◌}
 use mathlib.Core.{Path.{◌≡◌, refl, sym, ap, ◌∙◌, subst}, Logic.{◌⊎◌, ⊎_elim}, Bool.{Bool, true, false, true≢false}, List.{List, ◌∷◌}}
 use native.Mathlib.{Omega.{arith}, Nat.{le_refl}}
 use lib.ListN.{length, set}
-use Rattle.molang.specs.{Forest.{Token, Forest, nil, node, count}, Free.{is_nil, is_prefix}}
+use Rattle.molang.specs.{Forest.{Token, Forest, nil, node}, Free.{is_nil, is_prefix}}
 use Rattle.molang.specs.Work.{Kind, State, Right, right, unary_minus_and_not}
 use Rattle.ops.specs.Classes.{shares}
 use Rattle.nodes.{specs.Store.{wd, slot_words, slot_start, slot_end, classes_at, SegB, RepT, RepB, begins, put}, specs.Slots.{is_leaf_at}}

@@ -1,12 +1,12 @@
 -- A turn by the class of its token.
 use Prim.Native.Nat.{ℕ, ◌+◌, ◌*◌, ◌/◌, ◌%◌, ◌-◌, ◌≤◌, ◌<◌}
 use native.Mathlib.Omega.{arith}
-use mathlib.Core.{Path.{◌≡◌, refl, ap, sym, subst, ◌∙◌}, Bool.{Bool, true, false, ◌&&◌, ◌||◌}, List.{List, [], ◌∷◌}}
-use lib.{Dec.{eqb, leb, ltb}, ListN.{length}}
+use mathlib.Core.{Path.{◌≡◌, refl, ap, sym, subst, ◌∙◌}, Bool.{Bool, true, false}, List.{List}}
+use lib.{Dec.{eqb, ltb}, ListN.{length}}
 use borrow.Author.Tests.{eq-eqb, ne_eqb, eqb-true, eqb-false, ltb-true}
 use Rattle.ops.specs.declared.sets.OpSet.{OpSet}
 use Rattle.scan.specs.{declared.steps.Turn.{Turn}, Views.{View}, Tables.{entry_in}}
-use Rattle.scan.specs.Turns.{Walking, Turning, op_of_place, op_before, is_let, want_class, have_class, minus_class, grade_bits, is_doubled, operator_turn}
+use Rattle.scan.specs.Turns.{Walking, op_of_place, op_before, is_let, want_class, have_class, minus_class, grade_bits, is_doubled, operator_turn}
 use Rattle.scan.specs.Turns.{prefix_turn, subtract_turn, minus_turn, opener_turn, closer_turn, wait_turn, have_by, want_by, end_turn, have_turn}
 use Rattle.scan.specs.{Turns.{want_turn}, States.{Turns, UpTo, given, operator_of_place, operator_before, lets}}
 use Rattle.scan.proofs.SectionLaws.{first-true}

@@ -1,11 +1,11 @@
 -- The words of records: one label by its form; a record more behind others; and that they are the words of the trees that the records
 -- stand for, if the list's words are legal.
-use Prim.Native.Nat.{ℕ, zero, suc, ◌+◌, ◌*◌, ◌-◌, ◌/◌, ◌%◌, ◌^◌, ◌≤◌, ◌<◌}
-use mathlib.Core.{Path.{◌≡◌, refl, ap, ap₂, sym, subst, ◌∙◌}, Bool.{Bool, true, false, ◌&&◌, false≢true, and-eq-true_iff}, List.{List, [], ◌∷◌, ◌++◌, append_assoc, append-nil}}
-use native.Mathlib.{Omega.{arith}, Numerals.{add-one}}
-use lib.{ListN.{length, get_or, take, drop, length-append, length-drop}, Seq.{take-suc, get_or-drop, length-take-le}, Dec.{eqb, ltb}}
+use Prim.Native.Nat.{ℕ, zero, suc, ◌+◌, ◌*◌, ◌-◌, ◌≤◌, ◌<◌}
+use mathlib.Core.{Path.{◌≡◌, refl, ap, sym, ◌∙◌}, List.{List, [], ◌∷◌, ◌++◌, append_assoc, append-nil}}
+use native.Mathlib.{Omega.{arith}}
+use lib.{ListN.{length, get_or, take, drop, length-drop}, Seq.{take-suc, get_or-drop, length-take-le}}
 use Rattle.molang.specs.Parse.{in_front}
-use Rattle.words.{specs.Records.{laid_at}, specs.Tokens.{token_words_at, seven_words}, specs.declared.tokens.TokenWords.{TokenWords}}
+use Rattle.words.{specs.Records.{laid_at}, specs.declared.tokens.TokenWords.{TokenWords}}
 use Rattle.words.proofs.RecordLaws.{laid-after, laid-length}
 use Rattle.scan.specs.Emit.{renamed_words, label_words, words_of_record, words_of_records}
 

@@ -1,8 +1,7 @@
 -- The node that a record of each kind stands for, and what the words of operators become.
-use Prim.Native.Nat.{ℕ, zero, suc, ◌+◌, ◌*◌, ◌/◌, ◌%◌, ◌≤◌, ◌<◌}
-use mathlib.Core.{Path.{◌≡◌, refl, ap, ap₂, sym, ◌∙◌}, Bool.{Bool, true, false, true≢false, false≢true}, List.{List, [], ◌∷◌}}
+use Prim.Native.Nat.{ℕ, ◌+◌, ◌*◌, ◌/◌, ◌%◌, ◌<◌}
+use mathlib.Core.{Path.{◌≡◌, refl, ap, ap₂, ◌∙◌}, Bool.{Bool, true, false, true≢false, false≢true}, List.{List}}
 use native.Mathlib.Omega.{arith}
-use lib.Dec.{ltb}
 use borrow.Author.Tests.{lt-ltb, le-ltb}
 use Rattle.molang.specs.Operator
 use Rattle.molang.specs.Forest.{Token, renamed, bare, closed_by}

@@ -1,11 +1,11 @@
 -- Every turn reads a token at least, comes to a place between two tokens, and leaves the lowest word of the stack.
-use Prim.Native.Nat.{ℕ, suc, ◌+◌, ◌*◌, ◌/◌, ◌%◌, ◌-◌, ◌≤◌, ◌<◌}
+use Prim.Native.Nat.{ℕ, ◌+◌, ◌/◌, ◌%◌, ◌-◌, ◌≤◌, ◌<◌}
 use native.Mathlib.Omega.{arith}
-use mathlib.Core.{Path.{◌≡◌, refl, ap, sym, subst, ◌∙◌}, Bool.{Bool, true, false, ◌&&◌, ◌||◌}, List.{List, [], ◌∷◌}}
-use lib.Dec.{eqb, leb, ltb}
+use mathlib.Core.{Path.{◌≡◌, refl}, Bool.{Bool, true, false, ◌&&◌}}
+use lib.Dec.{eqb, leb}
 use borrow.Author.Tests.{eqb-true, eqb-false}
-use Rattle.scan.specs.Views.{View, top_word, tail_of, read_from, pushed, popped, laid, taken, settled, settled_lists, Based, bottom, above}
-use Rattle.scan.specs.Turns.{Walking, Turning, want, have, done, gives_up, op_of_place, op_before, have_class, want_class, minus_class, grade_bits}
+use Rattle.scan.specs.Views.{View, top_word, read_from, pushed, popped, laid, taken, settled, Based, above}
+use Rattle.scan.specs.Turns.{Walking, Turning, want, have, done, gives_up, op_of_place, op_before, have_class, minus_class, grade_bits}
 use Rattle.scan.specs.Turns.{is_let, is_doubled, is_plain, is_callable, is_empty_call, operator_turn, wait_turn, question_turn, prefix_turn}
 use Rattle.scan.specs.Turns.{subtract_turn, minus_turn, section_laid, call_laid, opened_turn, opener_turn, have_by, end_turn, have_turn}
 use Rattle.scan.specs.Turns.{leaf_turn, closer_turn, empty_turn, want_by, want_turn}

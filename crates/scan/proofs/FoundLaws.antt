@@ -1,17 +1,16 @@
 -- What `scan` found is a text of the list: the theorem of the walk, put together with the places of its records.
-use Prim.Native.Nat.{ℕ, zero, suc, ◌+◌, ◌*◌, ◌%◌, ◌≤◌, ◌<◌}
+use Prim.Native.Nat.{ℕ, zero, suc, ◌*◌, ◌≤◌, ◌<◌}
 use native.Mathlib.Omega.{arith}
-use mathlib.Core.{Path.{◌≡◌, refl, ap, sym, subst, ◌∙◌}, Bool.{Bool, true, false, ◌||◌}, List.{List, [], ◌∷◌}}
+use mathlib.Core.{Path.{◌≡◌, refl, ap, sym, subst, ◌∙◌}, Bool.{Bool, true, false, ◌||◌}, List.{List}}
 use lib.{IntN.{ℤ}, ListN.{length, drop}}
-use Rattle.molang.specs.Operator
 use Rattle.molang.specs.{Operator.{any, is_operator}, Forest.{Token}, Order.{rules}, Words.{tokens_of, list_words}, Parse.{in_halves}}
 use Rattle.molang.proofs.{Words.{LegalTokens, no_tokens, token, words_back}, ListWords.{list_words-length}}
 use Rattle.ops.specs.declared.sets.OpSet.{OpSet}
 use Rattle.scan.specs.{declared.scan.Scanned.{Scanned}, declared.scan.Scanned.TheVariants.{Records}, Entries.{nth, entries_of}}
 use Rattle.scan.specs.{Tables.{table_of}, Views.{View}}
 use Rattle.scan.specs.{Turns.{Walking, Turning, want, done, gives_up, turned_once, want_turn, Walks, stays, goes, start}, States.{given}}
-use Rattle.scan.specs.{Scanning.{ComesToEnd, Scans, found, HasScanned}, Walk.{CanWalk}}
-use Rattle.scan.proofs.{Placing.{all_placed, AllPlaced, Stands}, Walked.{Walkable, walk-text}, WalkLaws.{Found}}
+use Rattle.scan.specs.{Scanning.{Scans, found, HasScanned}, Walk.{CanWalk}}
+use Rattle.scan.proofs.{Placing.{all_placed, AllPlaced, Stands}, Walked.{walk-text}, WalkLaws.{Found}}
 
 -- Every token of a list without fault is an operator's.
 legal-op : {ks : List Token} → LegalTokens ks → (i : ℕ) → i < length ks → is_operator (nth ks i).op ≡ true

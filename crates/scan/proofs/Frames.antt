@@ -1,7 +1,7 @@
 -- THE WALK'S STATE, typed: what waits to the right of where the walk stands, as frames of a stack; their tokens, the nodes that they hold,
 -- and what holds of them under the rules of a version.
-use Prim.Native.Nat.{ℕ, suc, ◌≤◌, ◌<◌}
-use mathlib.Core.{Path.{◌≡◌}, Bool.{Bool, true, false, ◌&&◌, ◌||◌, not}, List.{List, [], ◌∷◌}, Option.{Option, none, some}}
+use Prim.Native.Nat.{ℕ, suc, ◌≤◌}
+use mathlib.Core.{Path.{◌≡◌}, Bool.{Bool, true, false}, List.{List, [], ◌∷◌}, Option.{Option, none, some}}
 use Rattle.molang.specs.Operator
 use Rattle.molang.specs.{Forest.{Token, nil, renamed}, Order.{Rules}}
 use Rattle.molang.specs.Grammar.{Text, tokens, rank, strength, outline, is_statement, is_text, ends_operand, trees}

@@ -1,29 +1,29 @@
 -- THE TURNS AFTER AN OPERAND HAS BEEN READ keep what holds of the walk: prefixes, operators, minuses, conditionals.
-use Prim.Native.Nat.{ℕ, zero, suc, ◌+◌, ◌*◌, ◌-◌, ◌/◌, ◌%◌, ◌≤◌, ◌<◌}
+use Prim.Native.Nat.{ℕ, suc, ◌+◌, ◌*◌, ◌-◌, ◌/◌, ◌%◌, ◌≤◌, ◌<◌}
 use mathlib.Core.Path.{◌≡◌, refl, ap, ap₂, sym, subst, ◌∙◌}
 use mathlib.Core.{Bool.{Bool, true, false, ◌&&◌, ◌||◌, not, true≢false, false≢true, and-eq-true_iff}, List.{List, [], ◌∷◌}}
-use mathlib.Core.Option.{Option, none, some}
+use mathlib.Core.Option.{Option, none}
 use native.Mathlib.Omega.{arith}
-use lib.{Dec.{eqb, leb, ltb}, ListN.{length, drop}}
-use borrow.Author.Tests.{leb-true, leb-false, le-leb, eqb-true, eqb-false, eq-eqb, ne_eqb, not-true, ltb-true}
+use lib.{Dec.{eqb, leb, ltb}}
+use borrow.Author.Tests.{leb-true, leb-false, le-leb, eqb-true, eq-eqb, ne_eqb, ltb-true}
 use Rattle.molang.specs.Operator
-use Rattle.molang.specs.{Operator.{is_operator}, Forest.{Token, nil, node, bare, renamed}, Free.{is_prefix}, Order.{Rules}}
+use Rattle.molang.specs.{Operator.{is_operator}, Forest.{Token, nil, renamed}, Free.{is_prefix}, Order.{Rules}}
 use Rattle.molang.specs.Grammar.{Text, tokens, rank, strength, outline, is_statement, is_infix, is_text, all_are, ends_operand, begins_with}
 use Rattle.molang.specs.Grammar.{signed, trees}
 use Rattle.molang.proofs.{Booleans.{either, never}, Computed.{computed}, Grammar.Given.{and_both}}
 use Rattle.molang.specs.Grammar as Texts
-use Rattle.scan.specs.{Laid.{Entry, laid_onto}, Entries.{nth, token_at, record_entry, entries_of}}
-use Rattle.scan.specs.Views.{View, Lists, top_word, tail_of, read_from, pushed, popped, laid, taken, settled_lists, settled}
-use Rattle.scan.specs.Turns.{Walking, Turning, want, have, done, gives_up, op_of_place, op_before, is_let, have_class, minus_class, grade_bits}
+use Rattle.scan.specs.{Laid.{Entry, laid_onto}, Entries.{token_at, entries_of}}
+use Rattle.scan.specs.Views.{View, top_word, tail_of, read_from, pushed, popped, laid, taken, settled_lists, settled}
+use Rattle.scan.specs.Turns.{Walking, gives_up, op_of_place, op_before, is_let, have_class, minus_class, grade_bits}
 use Rattle.scan.specs.Turns.{operator_turn, wait_turn, question_turn, prefix_turn, subtract_turn, is_doubled, minus_turn}
-use Rattle.scan.proofs.Frames.{placed, Joint, plain, less, asks, lesses, chooses, Frames, outside, waits, colon, closes, front, after}
-use Rattle.scan.proofs.Frames.{label_of, sign_of, held_by, laid_after, is_minus, has_minus, has_colon, rank_of, Stated, Fits, Joins, Colons, Stacked}
+use Rattle.scan.proofs.Frames.{Joint, plain, less, asks, lesses, chooses, Frames, outside, waits, colon, closes, front, after}
+use Rattle.scan.proofs.Frames.{label_of, sign_of, held_by, laid_after, is_minus, has_minus, has_colon, rank_of, Joins, Stacked}
 use Rattle.scan.proofs.Laying.{is_item, over-one, under-minus}
-use Rattle.scan.proofs.Settling.{Operates, Pairs, StackIs, bottom, joint, pair, closer, Cuts, Held, Stands, Low, Settled, settles, cuts-after, cuts-at}
-use Rattle.scan.proofs.Told.{Told, infix_test, implies, implied}
+use Rattle.scan.proofs.Settling.{Operates, Pairs, StackIs, bottom, joint, pair, closer, Cuts, Stands, Settled, settles, cuts-after, cuts-at}
+use Rattle.scan.proofs.Told.{infix_test, implies, implied}
 use Rattle.scan.proofs.EntryLaws.{over-entry, minus-entry, operates, operates-minus, pairs-word}
 use Rattle.scan.proofs.Reaching.{At, back, before-is, Seen, seen_more, begins-same}
-use Rattle.scan.proofs.Kept.{Known, Expected, Awaits, Reads, Finished, Holds, Item, reads-item, unsigned, ends-before, small}
+use Rattle.scan.proofs.Kept.{Known, Expected, Awaits, Reads, Holds, reads-item, unsigned, ends-before, small}
 use Rattle.scan.proofs.Joining.{Ranked, joins-plain, joins-less, joins-lesses, Asked, colons, joins-asks, joins-chooses}
 use Rattle.scan.proofs.Wanting.{legal-at, branch}
 

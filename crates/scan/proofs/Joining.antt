@@ -1,17 +1,17 @@
 -- WHAT MAY WAIT NEXT: an operator once those of a higher rank are settled, a `:` and a `?` once conditionals are.
-use Prim.Native.Nat.{ℕ, zero, suc, ◌+◌, ◌*◌, ◌-◌, ◌/◌, ◌%◌, ◌≤◌, ◌<◌}
-use mathlib.Core.Path.{◌≡◌, refl, ap, ap₂, sym, subst, ◌∙◌}
-use mathlib.Core.{Bool.{Bool, true, false, ◌&&◌, ◌||◌, not, true≢false, false≢true, and-eq-true_iff}, List.{List, [], ◌∷◌}}
+use Prim.Native.Nat.{ℕ, suc, ◌≤◌, ◌<◌}
+use mathlib.Core.Path.{◌≡◌, refl, ap, sym, subst, ◌∙◌}
+use mathlib.Core.{Bool.{true, false, not, true≢false, false≢true}, List.{List, [], ◌∷◌}}
 use native.Mathlib.Omega.{arith}
 use lib.Dec.{eqb, leb}
-use borrow.Author.Tests.{leb-true, le-leb, eqb-true, eq-eqb}
+use borrow.Author.Tests.{le-leb, eq-eqb}
 use Rattle.molang.specs.Operator
 use Rattle.molang.specs.{Operator.{before_minus}, Forest.{Token}, Order.{Rules}}
 use Rattle.molang.specs.Grammar.{Text, tokens, rank, strength, outline, fits, is_infix, is_text, all_are, ends_operand, begins_with}
 use Rattle.molang.proofs.{Booleans.{either}, Grammar.Given.{and_both}}
 use Rattle.molang.specs.Grammar as Texts
 use Rattle.scan.proofs.Frames.{Joint, plain, less, asks, lesses, chooses, Frames, outside, waits, colon, closes, build}
-use Rattle.scan.proofs.Frames.{is_ask, is_minus, has_minus, has_colon, rank_of, left_rank, Stated, FitsBefore, FitsBetween, Fits, Joins, Colons, Stacked}
+use Rattle.scan.proofs.Frames.{is_ask, is_minus, has_colon, rank_of, left_rank, Stated, FitsBetween, Fits, Joins, Colons, Stacked}
 use Rattle.scan.proofs.Settling.{Low, Held}
 
 module _ (r : Rules) (Expected : ℕ → Type 0) where

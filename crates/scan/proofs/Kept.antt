@@ -1,20 +1,18 @@
 -- WHAT HOLDS OF THE WALK: if an operand is wanted, the words stand for frames; if one has been read, for an item and frames.
-use Prim.Native.Nat.{ℕ, zero, suc, ◌+◌, ◌*◌, ◌-◌, ◌/◌, ◌%◌, ◌≤◌, ◌<◌}
-use mathlib.Core.Path.{◌≡◌, refl, ap, ap₂, sym, subst, ◌∙◌}
-use mathlib.Core.{Bool.{Bool, true, false, ◌&&◌, ◌||◌, not, true≢false, false≢true, and-eq-true_iff}, List.{List, [], ◌∷◌}}
-use mathlib.Core.Option.{Option, none, some}
+use Prim.Native.Nat.{ℕ, ◌≤◌, ◌<◌}
+use mathlib.Core.Path.{◌≡◌, sym, ◌∙◌}
+use mathlib.Core.{Bool.{Bool, true, false, true≢false, false≢true}, List.{List, [], ◌∷◌}}
+use mathlib.Core.Option.{none}
 use native.Mathlib.Omega.{arith}
-use lib.{Dec.{eqb, leb}, ListN.{length, drop}}
-use borrow.Author.Tests.{leb-true, leb-false, le-leb, eqb-true, eqb-false, not-true}
+use lib.{Dec.{eqb}, ListN.{length}}
 use Rattle.molang.specs.Operator
-use Rattle.molang.specs.{Operator.{is_operator}, Forest.{Token, nil}, Order.{Rules, order}}
-use Rattle.molang.specs.Grammar.{Text, tokens, rank, strength, outline, is_statement, is_text, ends_operand, begins_with, trees}
-use Rattle.molang.specs.Grammar as Texts
-use Rattle.scan.specs.{Laid.{Entry, laid_onto}, Entries.{nth, token_at, record_entry, entries_of}, Views.{View, Lists}}
-use Rattle.scan.specs.Turns.{Walking, Turning, want, have, done, gives_up, op_of_place, op_before, is_let, minus_class}
-use Rattle.scan.proofs.Frames.{placed, Joint, plain, less, asks, lesses, chooses, Frames, outside, waits, colon, closes, build}
-use Rattle.scan.proofs.Frames.{after, laid_after, has_minus, is_minus, left_rank, Stated, FitsBefore, FitsBetween, Fits, Joins, Colons}
-use Rattle.scan.proofs.{Frames.{Stacked}, Laying.{is_item}, Settling.{StackIs, Held, Stands}, Told.{Told}, Reaching.{At, Seen}}
+use Rattle.molang.specs.{Operator.{is_operator}, Forest.{Token, nil}, Order.{Rules}}
+use Rattle.molang.specs.Grammar.{Text, tokens, rank, strength, outline, is_text, ends_operand, begins_with, trees}
+use Rattle.scan.specs.{Laid.{laid_onto}, Entries.{nth, entries_of}, Views.{View, Lists}}
+use Rattle.scan.specs.Turns.{Walking, Turning, want, have, done, gives_up, op_before, minus_class}
+use Rattle.scan.proofs.Frames.{Frames, outside, waits, colon, closes}
+use Rattle.scan.proofs.Frames.{after, laid_after, has_minus, Stated, Fits}
+use Rattle.scan.proofs.{Frames.{Stacked}, Laying.{is_item}, Settling.{StackIs, Stands}, Told.{Told}, Reaching.{At, Seen}}
 
 -- What is known before the walk: the table tells of operators; numbers are legal; places fit into fifteen bits; no list with semicolons.
 pub record Known (r : Rules) (g : Walking) : Type 0 where

@@ -1,13 +1,13 @@
 -- THE NODES OF A TEXT, in preorder: those of a text before others, of a statement as one tree, of an item under a minus, of a joint between its
 -- operands.
-use Prim.Native.Nat.{ℕ, suc, zero}
-use mathlib.Core.{Path.{◌≡◌, refl, ap, ap₂, sym, ◌∙◌}, Bool.{Bool, true, false, false≢true}, List.{List, [], ◌∷◌}}
+use Prim.Native.Nat.{ℕ, suc}
+use mathlib.Core.{Path.{◌≡◌, refl, ap, ap₂, sym, ◌∙◌}, Bool.{Bool, true, false, false≢true}, List.{List, ◌∷◌}}
 use mathlib.Core.Option.{Option, none, some}
 use Rattle.molang.specs.Operator
-use Rattle.molang.specs.Forest.{Token, Forest, nil, node, count, bare, renamed, closed_by}
+use Rattle.molang.specs.Forest.{Token, Forest, nil, node, count, bare, renamed}
 use Rattle.molang.specs.Grammar.{Text, operand, member, section, query, math_call, math_empty, index, arrow, prefix, returned, between, minus}
 use Rattle.molang.specs.Grammar.{minuses, choice, chosen, script, line, lines, final, Sort, a_statement, a_script, a_line, some_lines, a_last, several}
-use Rattle.molang.specs.Grammar.{is_statement, outline, signed, listed, trees, inside_of, top_of}
+use Rattle.molang.specs.Grammar.{is_statement, outline, signed, listed, trees}
 use Rattle.scan.specs.Laid.{Entry, laid_onto}
 use Rattle.scan.proofs.Frames.{placed, Joint, plain, less, asks, lesses, chooses, build, label_of, sign_of, held_by, Stated}
 

@@ -1,11 +1,11 @@
 -- The operator at a place of the list, in its words and among its tokens.
 use Prim.Native.Nat.{ℕ, zero, suc, ◌+◌, ◌*◌, ◌-◌, ◌/◌, ◌%◌, ◌≤◌, ◌<◌}
-use mathlib.Core.{Path.{◌≡◌, refl, ap, sym, ◌∙◌}, Bool.{Bool, true, false, ◌&&◌, ◌||◌}, List.{List, [], ◌∷◌}}
-use lib.{Dec.{eqb, leb, ltb}, ListN.{length, get_or}}
+use mathlib.Core.{Path.{◌≡◌, refl, ap, sym, ◌∙◌}, Bool.{Bool, true, ◌&&◌}, List.{List, [], ◌∷◌}}
+use lib.{Dec.{eqb, ltb}, ListN.{length, get_or}}
 use borrow.Author.Tests.{lt-ltb, le-ltb, eq-eqb, ne_eqb}
 use Rattle.ops.specs.declared.sets.OpSet.{OpSet}
 use native.Mathlib.Omega.{arith}
-use Rattle.molang.specs.Words.{tokens_of, token_of, low_of, number_in}
+use Rattle.molang.specs.Words.{tokens_of, token_of, number_in}
 use Rattle.words.specs.Fields.{operator_of}
 use Rattle.scan.specs.{Entries.{nth, token_at}, Tables.{entry_in}, Views.{View, top_word}}
 use Rattle.scan.specs.Turns.{op_of_place, op_before, is_let, minus_class, call_class, is_doubled, is_plain, is_callable, is_empty_call}

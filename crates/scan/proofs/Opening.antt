@@ -1,28 +1,28 @@
 -- AN OPENER, after an operand has been read: the section closes, and the name before it takes it, or none does.
-use Prim.Native.Nat.{ℕ, zero, suc, ◌+◌, ◌*◌, ◌-◌, ◌/◌, ◌%◌, ◌≤◌, ◌<◌}
+use Prim.Native.Nat.{ℕ, ◌+◌, ◌*◌, ◌-◌, ◌/◌, ◌%◌, ◌≤◌}
 use mathlib.Core.Path.{◌≡◌, refl, ap, ap₂, sym, subst, ◌∙◌}
 use mathlib.Core.{Bool.{Bool, true, false, ◌&&◌, ◌||◌, not, true≢false, false≢true, and-eq-true_iff}, List.{List, [], ◌∷◌}}
-use mathlib.Core.Option.{Option, none, some}
+use mathlib.Core.Option.{none}
 use native.Mathlib.Omega.{arith}
-use lib.{Dec.{eqb, leb, ltb}, ListN.{length, drop}}
-use borrow.Author.Tests.{leb-true, le-leb, eqb-true, eqb-false, eq-eqb, ne_eqb, not-true, ltb-true}
+use lib.{Dec.{eqb, leb, ltb}, ListN.{drop}}
+use borrow.Author.Tests.{le-leb, eqb-true, eqb-false, eq-eqb, ne_eqb, not-true}
 use Rattle.molang.specs.Operator
 use Rattle.molang.specs.Operator.{is_one_of, any, is_math_call, is_query_or_loop, before_minus}
-use Rattle.molang.specs.{Forest.{Token, Forest, nil, node, count, closed_by}, Order.{Rules, order}, Statements.{is_entered}}
+use Rattle.molang.specs.{Forest.{Token, nil, node, count, closed_by}, Order.{Rules}, Statements.{is_entered}}
 use Rattle.molang.specs.Grammar.{Text, tokens, rank, strength, outline, Sort, is_statement, is_list, is_text, is_round, lacks, ends_operand}
 use Rattle.molang.specs.Grammar.{begins_with, signed, trees}
-use Rattle.molang.proofs.{Booleans.{either, never, or-first, or-second, or-neither}, Computed.{computed}, Grammar.Given.{and_both}}
+use Rattle.molang.proofs.{Booleans.{either, or-first, or-second, or-neither}, Computed.{computed}, Grammar.Given.{and_both}}
 use Rattle.molang.specs.Grammar as Texts
-use Rattle.scan.specs.{Laid.{Entry, laid_onto}, Entries.{nth, token_at, record_entry, entries_of}}
-use Rattle.scan.specs.Views.{View, Lists, top_word, tail_of, read_from, popped, laid, settled_lists, settled}
-use Rattle.scan.specs.Turns.{Walking, Turning, want, have, done, gives_up, op_of_place, op_before, is_let, have_class, minus_class, call_class}
+use Rattle.scan.specs.{Laid.{Entry, laid_onto}, Entries.{token_at, entries_of}}
+use Rattle.scan.specs.Views.{View, top_word, tail_of, read_from, popped, laid, settled_lists, settled}
+use Rattle.scan.specs.Turns.{Walking, gives_up, op_of_place, is_let, have_class, minus_class, call_class}
 use Rattle.scan.specs.Turns.{section_laid, call_laid, is_plain, is_callable, opened_turn, opener_turn, end_turn, have_by, have_turn}
-use Rattle.scan.proofs.Frames.{placed, Frames, outside, waits, colon, closes, after, laid_after, has_minus, rank_of, Stated, Fits}
-use Rattle.scan.proofs.{Frames.{Stacked}, Laying.{is_item, over-one}}
-use Rattle.scan.proofs.Settling.{StackIs, bottom, joint, pair, closer, Closes, Cuts, Held, Stands, Settled, cuts-at}
-use Rattle.scan.proofs.{Told.{Told, binary_test, math_test, ends_before, implies}, EntryLaws.{over-entry, section-entry}}
+use Rattle.scan.proofs.Frames.{placed, Frames, outside, waits, colon, closes, after, laid_after, rank_of, Stated}
+use Rattle.scan.proofs.{Laying.{is_item, over-one}}
+use Rattle.scan.proofs.Settling.{StackIs, bottom, joint, pair, closer, Cuts, Stands, Settled, cuts-at}
+use Rattle.scan.proofs.{Told.{binary_test, math_test, ends_before}, EntryLaws.{over-entry, section-entry}}
 use Rattle.scan.proofs.Reaching.{At, back, token-there, Seen, seen_more, seen-less, lacks-unused}
-use Rattle.scan.proofs.Kept.{Known, Expected, Awaits, Reads, Finished, Holds, Item, reads-item, unsigned, small}
+use Rattle.scan.proofs.Kept.{Known, Expected, Reads, Finished, Holds, reads-item, unsigned, small}
 use Rattle.scan.proofs.Wanting.{TopCloser, top-closer, top-is-closer, round, legal-at, Math, math-of, some-place, branch}
 use Rattle.scan.proofs.Having.{settling, not-kept, between-kept, minus-kept, colon-kept, question-kept}
 

@@ -1,9 +1,9 @@
 -- Every record of the walk has the places of tokens of the list: that of its own token, and that of its closer if it is a section.
-use Prim.Native.Nat.{ℕ, zero, suc, ◌+◌, ◌*◌, ◌-◌, ◌/◌, ◌%◌, ◌≤◌, ◌<◌}
-use mathlib.Core.{Path.{◌≡◌, refl, ap, sym, subst, ◌∙◌}, Bool.{Bool, true, false, ◌&&◌, ◌||◌, false≢true, and-eq-true_iff}, List.{List, [], ◌∷◌}}
+use Prim.Native.Nat.{ℕ, ◌+◌, ◌*◌, ◌-◌, ◌/◌, ◌%◌, ◌≤◌, ◌<◌}
+use mathlib.Core.{Path.{◌≡◌, refl, ap, sym, subst, ◌∙◌}, Bool.{Bool, true, false, ◌&&◌, and-eq-true_iff}, List.{List, [], ◌∷◌}}
 use native.Mathlib.Omega.{arith}
-use lib.{Dec.{eqb, leb, ltb}, ListN.{length, get_or}}
-use borrow.Author.Tests.{lt-ltb, ltb-true, ltb-false, eqb-true, eqb-false}
+use lib.{Dec.{eqb, leb, ltb}}
+use borrow.Author.Tests.{lt-ltb, ltb-true, eqb-false}
 use Rattle.molang.specs.Operator
 use Rattle.scan.specs.Records.{is_section, token_place, closer_place}
 use Rattle.scan.specs.Views.{View, top_word, tail_of, read_from, pushed, popped, laid, taken, settled_lists, settled}

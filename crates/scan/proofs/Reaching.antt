@@ -1,10 +1,10 @@
 -- WHERE THE WALK STANDS: the tokens from a place on, and what has been seen of them.
-use Prim.Native.Nat.{ℕ, zero, suc, ◌+◌, ◌*◌, ◌-◌, ◌/◌, ◌%◌, ◌≤◌, ◌<◌}
-use mathlib.Core.Path.{◌≡◌, refl, ap, ap₂, sym, subst, ◌∙◌}
+use Prim.Native.Nat.{ℕ, zero, suc, ◌*◌, ◌-◌, ◌/◌, ◌≤◌, ◌<◌}
+use mathlib.Core.Path.{◌≡◌, refl, ap, ap₂, sym, ◌∙◌}
 use mathlib.Core.{Bool.{Bool, true, false, ◌&&◌, ◌||◌, not, true≢false, false≢true, and-eq-true_iff}, List.{List, [], ◌∷◌}}
 use native.Mathlib.Omega.{arith}
 use lib.{Dec.{eqb, leb}, ListN.{length, drop}}
-use borrow.Author.Tests.{eqb-true, eqb-false, eq-eqb, leb-true, lt-leb}
+use borrow.Author.Tests.{eqb-true, eqb-false, leb-true, lt-leb}
 use Rattle.molang.specs.Operator
 use Rattle.molang.specs.{Operator.{is_operator}, Forest.{Token}, Read.{uses}, Grammar.{Text, tokens, tokens_before, begins_with, lacks}}
 use Rattle.molang.proofs.Booleans.{either, never, or-second}

@@ -1,15 +1,15 @@
 -- The walk's start, and its answer under the table of a version.
-use Prim.Native.Nat.{ℕ, ◌/◌, ◌%◌, ◌≤◌}
+use Prim.Native.Nat.{ℕ, ◌%◌}
 use native.Mathlib.Omega.{arith}
-use mathlib.Core.{Path.{◌≡◌, refl, ap, sym, subst, ◌∙◌}, Bool.{Bool, true, false}, List.{List, [], ◌∷◌}}
-use lib.{IntN.{ℤ}, ListN.{length, drop}, Seq.{drop-length}}
+use mathlib.Core.{Path.{◌≡◌, refl, ap, sym, subst, ◌∙◌}, Bool.{false}, List.{List, [], ◌∷◌}}
+use lib.{IntN.{ℤ}, ListN.{length}, Seq.{drop-length}}
 use Rattle.molang.specs.Operator
 use Rattle.molang.specs.{Operator.{any}, Order.{Rules, rules}, Parse.{in_halves}}
 use Rattle.ops.specs.declared.sets.OpSet.{OpSet}
 use Rattle.scan.specs.{declared.stack.State.{State}, declared.scan.Scanned.{Scanned}}
-use Rattle.scan.specs.{declared.scan.Scanned.TheVariants.{Records, GivesUp}, Tables.{table_of}, Views.{View, pushed, Based, bottom}}
+use Rattle.scan.specs.{declared.scan.Scanned.TheVariants.{GivesUp}, Tables.{table_of}, Views.{View, pushed, Based, bottom}}
 use Rattle.scan.specs.{Turns.{want, Walks, stays, start}, States.{stack_of, view_of, Becomes, given, IsLow, HasOpeners, Goes}}
-use Rattle.scan.specs.Scanning.{CanSetOut, ComesToEnd, ScanAnswers, reached, stopped, HasGone, Scans, found, none, HasScanned}
+use Rattle.scan.specs.Scanning.{CanSetOut, ScanAnswers, reached, stopped, HasGone, Scans, found, none, HasScanned}
 use Rattle.scan.proofs.TableLaws.{low-table, openers-table}
 
 -- The state before the first word is pushed.

@@ -1,16 +1,14 @@
 -- A section is laid down, alone or under the name before it, seen through the two lists.
-use Prim.Native.Nat.{ℕ, ◌+◌, ◌*◌, ◌/◌, ◌%◌, ◌-◌, ◌≤◌, ◌<◌}
+use Prim.Native.Nat.{ℕ, ◌+◌, ◌*◌, ◌/◌, ◌%◌, ◌≤◌}
 use native.Mathlib.Omega.{arith}
-use mathlib.Core.{Path.{◌≡◌, refl, ap, sym, subst, ◌∙◌}, Bool.{Bool, true, false, ◌&&◌, ◌||◌}, List.{List, [], ◌∷◌}}
-use lib.{Dec.{eqb, leb, ltb}, ListN.{length, drop, length-drop}}
+use mathlib.Core.{Path.{◌≡◌, refl, sym, ◌∙◌}, Bool.{Bool, true, false, ◌&&◌}, List.{List}}
+use lib.{Dec.{eqb, ltb}, ListN.{length-drop}}
 use borrow.Author.Tests.{eq-eqb, ne_eqb, eqb-true, ltb-true}
-use Rattle.ops.specs.declared.sets.OpSet.{OpSet}
 use Rattle.scan.specs.{declared.stack.State.{State}, declared.steps.Turn.{Turn}}
-use Rattle.scan.specs.declared.steps.Turn.TheVariants.{Want, Have, Done, GivesUp}
-use Rattle.scan.specs.Views.{View, top_word, tail_of, read_from, popped, laid, settled}
+use Rattle.scan.specs.Views.{View, top_word, read_from, popped, laid, settled}
 use Rattle.scan.specs.Turns.{Walking, have, section_laid, call_laid, is_plain, is_callable, is_empty_call, opened_turn, opener_turn, empty_turn}
-use Rattle.scan.specs.States.{stack_of, view_of, Sound, HasRoom, HasTwo, free_of, StandsFree, Becomes, Turns, wants, haves, ends, stops}
-use Rattle.scan.proofs.{SettleLaws.{depth-of, out_of, stack-long, tail-long}, TurnLaws.{then, then-turn, top_of}}
+use Rattle.scan.specs.States.{stack_of, view_of, Sound, HasTwo, free_of, Becomes, Turns}
+use Rattle.scan.proofs.{SettleLaws.{depth-of, out_of, stack-long, tail-long}, TurnLaws.{then}}
 
 -- A test of two parts holds: both hold.
 pub first-true : (a b : Bool) → (a && b) ≡ true → a ≡ true

@@ -1,6 +1,6 @@
 -- The loop `settle`, seen through the two lists.
 use Prim.Native.Nat.{ℕ, zero, suc, ◌+◌, ◌-◌, ◌/◌, ◌%◌, ◌≤◌, ◌<◌}
-use mathlib.Core.{Path.{◌≡◌, refl, ap, ap₂, sym, subst, ◌∙◌}, Bool.{Bool, true, false}, List.{List, [], ◌∷◌}}
+use mathlib.Core.{Path.{◌≡◌, refl, ap, sym, subst, ◌∙◌}, Bool.{Bool, true, false}, List.{List, [], ◌∷◌}}
 use native.Mathlib.Omega.{arith}
 use lib.{ListN.{length, drop, length-drop}, Dec.{leb}}
 use borrow.Author.Tests.{le-leb, lt-leb}

@@ -1,16 +1,15 @@
 -- SETTLING: the stack's words stand for the frames, the records for the nodes; operators from a rank on take what has been read as their
 -- left operand, in the words as over texts, and what holds is kept.
-use Prim.Native.Nat.{ℕ, suc, ◌+◌, ◌*◌, ◌/◌, ◌%◌, ◌≤◌, ◌<◌}
-use mathlib.Core.{Path.{◌≡◌, refl, ap, ap₂, sym, subst, ◌∙◌}, Bool.{Bool, true, false}, List.{List, [], ◌∷◌}, Option.{Option, none, some}}
+use Prim.Native.Nat.{ℕ, suc, ◌*◌, ◌/◌, ◌%◌, ◌≤◌, ◌<◌}
+use mathlib.Core.{Path.{◌≡◌, refl, ap, ap₂, sym, ◌∙◌}, Bool.{Bool, true, false}, List.{List, [], ◌∷◌}, Option.{Option}}
 use native.Mathlib.Omega.{arith}
-use lib.{Dec.{leb}, ListN.{length, drop}}
+use lib.{Dec.{leb}, ListN.{drop}}
 use borrow.Author.Tests.{leb-true, leb-false, le-leb, lt-leb}
-use Rattle.molang.specs.Operator
 use Rattle.molang.specs.{Forest.{Token, nil}, Order.{Rules}, Grammar.{Text, tokens, strength, is_text, trees}}
 use Rattle.scan.specs.{Laid.{Entry, laid_onto}, Entries.{record_entry, entries_of}, Views.{Lists, settled_lists, Based}}
 use Rattle.scan.specs.Views as Views
 use Rattle.scan.proofs.Frames.{placed, Joint, plain, less, asks, lesses, chooses, Frames, outside, waits, colon, closes, build, front, after}
-use Rattle.scan.proofs.Frames.{label_of, sign_of, held_by, laid_after, rank_of, Stated, Fits, Joins, Colons, Stacked}
+use Rattle.scan.proofs.Frames.{label_of, laid_after, rank_of, Stated, Fits, Stacked}
 use Rattle.scan.proofs.Laying.{onto-built, stated-built}
 
 -- ---- texts of joints

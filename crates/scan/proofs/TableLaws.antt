@@ -1,9 +1,9 @@
 -- What holds of every entry of a table, computed over the whole table.
 use Prim.Native.Nat.{ℕ, zero, suc, ◌+◌, ◌/◌, ◌%◌, ◌≤◌, ◌<◌}
 use native.Mathlib.{Omega.{arith}, Nat.{not-suc-le-zero, le_of_suc-le-suc}}
-use mathlib.Core.{Path.{◌≡◌, refl, ap, sym, subst, ◌∙◌}, Bool.{Bool, true, false, ◌&&◌, ◌||◌, not}, List.{List, [], ◌∷◌}}
+use mathlib.Core.{Path.{◌≡◌, refl, ap, sym, ◌∙◌}, Bool.{Bool, true, false, ◌&&◌, ◌||◌, not}, List.{List, [], ◌∷◌}}
 use lib.{Dec.{eqb, leb, ltb}, ListN.{length, get_or}, IntN.{ℤ, pos, negsuc}}
-use borrow.Author.Tests.{ltb-true, ltb-false, lt-ltb, le-ltb, leb-true, le-leb, eq-eqb}
+use borrow.Author.Tests.{ltb-true, leb-true, le-leb, eq-eqb}
 use Rattle.molang.specs.Order.{Rules, rules, is_from, effective}
 use Rattle.scan.specs.{Tables.{below_five, at_five, from_six, table_of, entry_in}, Turns.{have_class}, States.{IsLow, HasOpeners}}
 use Rattle.scan.proofs.SectionLaws.{first-true, second-true}

@@ -1,16 +1,16 @@
 -- WHAT THE TABLE TELLS of an operator, in the grammar's words: one record of facts, computed over the three tables. A grade is a rank's number in
 -- the stack's words; grades are in the order of the ranks.
 use Prim.Native.Nat.{ℕ, zero, suc, ◌+◌, ◌/◌, ◌%◌, ◌≤◌, ◌<◌}
-use mathlib.Core.{Path.{◌≡◌, refl, ap, sym, ◌∙◌}, Bool.{Bool, true, false, ◌&&◌, ◌||◌, not, true≢false, false≢true, and-eq-true_iff}}
+use mathlib.Core.{Path.{◌≡◌, refl, ap, ◌∙◌}, Bool.{Bool, true, false, ◌&&◌, ◌||◌, not, false≢true, and-eq-true_iff}}
 use mathlib.Core.List.{List, [], ◌∷◌}
 use native.Mathlib.Omega.{arith}
-use lib.{Dec.{eqb, leb, ltb, lit<}, IntN.{ℤ, pos, negsuc}, ListN.{length, get_or}}
-use borrow.Author.Tests.{leb-true, leb-false, le-leb, eqb-true, eqb-false, not-true, le-ltb}
+use lib.{Dec.{eqb, leb}, ListN.{length, get_or}}
+use borrow.Author.Tests.{leb-true, le-leb, eqb-true, eqb-false, not-true, le-ltb}
 use Rattle.molang.specs.Operator
-use Rattle.molang.specs.{Operator.{is_math_call, is_host, is_operator, is_one_of, any, before_minus, operators_before}, Order.{Rules, rules, order}}
+use Rattle.molang.specs.{Operator.{is_math_call, is_host, is_operator, is_one_of, any, before_minus, operators_before}, Order.{Rules, order}}
 use Rattle.molang.specs.Grammar.{rank, is_infix, is_operand}
 use Rattle.molang.proofs.{Computed.{computed}, Booleans.{either, or-second}, OperatorNumbers.{none_of}, Grammar.Numbers.{apart}}
-use Rattle.scan.specs.{Turns.{want_class, have_class, minus_class, call_class}, Tables.{below_five, at_five, from_six, table_of, entry_in}}
+use Rattle.scan.specs.{Turns.{want_class, have_class, minus_class, call_class}, Tables.{below_five, at_five, from_six, entry_in}}
 
 -- A minus after the operator is binary.
 unfoldable pub ends_before : ℕ → Bool

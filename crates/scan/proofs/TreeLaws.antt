@@ -1,16 +1,15 @@
 -- The words of records are those of the trees that the records stand for, if the list's words are legal and every record has the places of
 -- tokens.
-use Prim.Native.Nat.{ℕ, zero, suc, ◌+◌, ◌*◌, ◌-◌, ◌/◌, ◌%◌, ◌^◌, ◌≤◌, ◌<◌}
+use Prim.Native.Nat.{ℕ, zero, suc, ◌+◌, ◌*◌, ◌/◌, ◌%◌, ◌^◌, ◌<◌}
 use mathlib.Core.{Path.{◌≡◌, refl, ap, ap₂, sym, subst, ◌∙◌}, Bool.{Bool, true, false}, List.{List, [], ◌∷◌, ◌++◌, append_assoc, append-nil}}
 use native.Mathlib.Omega.{arith}
 use lib.{ListN.{length, get_or}, Dec.{ltb}}
 use borrow.Author.Tests.{ltb-false}
-use Rattle.molang.specs.Operator
 use Rattle.molang.specs.{Forest.{Token, Forest, nil, node, count, size, renamed, bare, closed_by}, Legal.{Legal}}
-use Rattle.molang.specs.Words.{word, low_of, operator_bits, token_words, tokens_of, list_words, node_words_of, tree_words}
-use Rattle.molang.proofs.Words.{LegalTokens, no_tokens, token, AtEnds, operator-small, low_word}
+use Rattle.molang.specs.Words.{word, low_of, operator_bits, token_words, list_words, node_words_of, tree_words}
+use Rattle.molang.proofs.Words.{LegalTokens, token, AtEnds, operator-small, low_word}
 use Rattle.words.proofs.FieldLaws.{renamed-word}
-use Rattle.words.specs.{Tokens.{token_words_at, five_words, seven_words}, declared.tokens.TokenWords.{TokenWords}}
+use Rattle.words.specs.{Tokens.{token_words_at, five_words}, declared.tokens.TokenWords.{TokenWords}}
 use Rattle.scan.specs.{Records.{is_section, token_place, closer_place, children_of, form_of}, Laid.{Entry, laid_onto}, Entries.{nth, token_at, label_of, record_entry, entries_of}}
 use Rattle.scan.specs.Emit.{label_words, words_of_record, words_of_records}
 use Rattle.scan.proofs.Placing.{IsPlace, AllPlaced, none, more, Stands}

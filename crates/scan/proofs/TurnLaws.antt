@@ -1,13 +1,13 @@
 -- Calls after each other, seen through the two lists.
-use Prim.Native.Nat.{ℕ, ◌+◌, ◌/◌, ◌%◌, ◌-◌, ◌≤◌, ◌<◌}
+use Prim.Native.Nat.{ℕ, ◌+◌, ◌/◌, ◌%◌, ◌≤◌}
 use native.Mathlib.Omega.{arith}
-use mathlib.Core.{Path.{◌≡◌, refl, ap, sym, subst, ◌∙◌}, Bool.{Bool, true, false, ◌&&◌}, List.{List, [], ◌∷◌}}
+use mathlib.Core.{Path.{◌≡◌, refl, ap, sym, subst, ◌∙◌}, Bool.{Bool, true, false, ◌&&◌}, List.{List}}
 use lib.{Dec.{eqb, leb}, ListN.{length, drop, length-drop}}
-use borrow.Author.Tests.{eqb-true, leb-true, leb-false}
+use borrow.Author.Tests.{eqb-true}
 use Rattle.scan.specs.{declared.stack.State.{State}, declared.steps.Turn.{Turn}}
-use Rattle.scan.specs.declared.steps.Turn.TheVariants.{Want, Have, Done, GivesUp}
-use Rattle.scan.specs.Views.{View, top_word, tail_of, read_from, pushed, popped, laid, taken, settled, settled_lists, Based}
-use Rattle.scan.specs.Turns.{Turning, want, have, done, gives_up, operator_turn, wait_turn, question_turn, end_turn}
+use Rattle.scan.specs.declared.steps.Turn.TheVariants.{Want, Done}
+use Rattle.scan.specs.Views.{View, top_word, read_from, pushed, popped, laid, taken, settled, Based}
+use Rattle.scan.specs.Turns.{Turning, operator_turn, wait_turn, question_turn, end_turn}
 use Rattle.scan.specs.States.{stack_of, view_of, Sound, HasRoom, HasTwo, free_of, StandsFree, Becomes, Turns, wants, haves, ends, stops}
 use Rattle.scan.proofs.SettleLaws.{depth-of, out_of, stack-long, tail-long, based-settled, based-two}
 

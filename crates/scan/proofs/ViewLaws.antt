@@ -3,7 +3,7 @@ use Prim.Native.Nat.{ℕ, zero, suc, ◌+◌, ◌-◌, ◌≤◌, ◌<◌}
 use mathlib.Core.{Path.{◌≡◌, refl, ap, ap₂, sym, ◌∙◌}, List.{List, [], ◌∷◌}}
 use native.Mathlib.{Omega.{arith}, Nat.{not-suc-le-zero, le_of_suc-le-suc}}
 use lib.{ListN.{length, get_or, set, drop, length-set}, Seq.{get_or-set_same, get_or-set_other}}
-use Rattle.scan.specs.{declared.stack.State.{State}, Views.{View, top_word, tail_of, pushed, popped, laid}}
+use Rattle.scan.specs.{declared.stack.State.{State}, Views.{top_word, tail_of, pushed, popped, laid}}
 use Rattle.scan.specs.States.{stack_of, view_of, Sound, HasRoom, HasTwo, Becomes}
 
 -- A store above the stack leaves it.

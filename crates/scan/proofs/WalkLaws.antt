@@ -1,16 +1,16 @@
 -- From a walk that found a text to the promise of `walk`: its records can be emitted, and what is emitted is the tree that the definition
 -- reads.
-use Prim.Native.Nat.{ℕ, zero, suc, ◌+◌, ◌*◌, ◌-◌, ◌%◌, ◌≤◌, ◌<◌}
-use mathlib.Core.{Path.{◌≡◌, refl, ap, sym, subst, ◌∙◌}, Bool.{Bool, true}, List.{List, [], ◌∷◌}, Option.{none}}
+use Prim.Native.Nat.{ℕ, zero, suc, ◌+◌, ◌*◌, ◌-◌, ◌≤◌, ◌<◌}
+use mathlib.Core.{Path.{◌≡◌, ap, sym, subst, ◌∙◌}, Bool.{Bool, true}, List.{List, [], ◌∷◌}, Option.{none}}
 use mathlib.Core.Option as Options
 use native.Mathlib.Omega.{arith}
 use lib.{ListN.{length, get_or, drop, length-drop}, IntN.{ℤ}, Seq.{get_or-drop}}
 use Rattle.molang.specs.{Forest.{Token, Forest, nil, node, size}, Order.{rules}, Read.{Answer, tree, messages, read}}
-use Rattle.molang.specs.Words.{tokens_of, list_words, tree_words, operator_field, words_refusal}
+use Rattle.molang.specs.Words.{tokens_of, list_words, tree_words}
 use Rattle.molang.specs.{Parse.{in_front}, Grammar.{Text, tokens, well_formed, trees, Serves}}
-use Rattle.molang.proofs.{Words.{LegalTokens, AtEnds, words_back, tokens-end}, ListWords.{list_words-length}, Bounds.{read-tree}, Grammar.{Reads, text-reads}}
-use Rattle.scan.specs.{Laid.{laid_onto}, Entries.{entries_of}, Records.{token_place, closer_place}, Emit.{words_of_records, IsPlaced, CanEmitRecords}, Walk.{CanWalk, TreeRead}}
-use Rattle.scan.proofs.{Placing.{IsPlace, AllPlaced, more, Stands}, TreeLaws.{trees-words, trees-long}}
+use Rattle.molang.proofs.{Words.{LegalTokens, words_back, tokens-end}, ListWords.{list_words-length}, Bounds.{read-tree}, Grammar.{Reads, text-reads}}
+use Rattle.scan.specs.{Laid.{laid_onto}, Entries.{entries_of}, Emit.{words_of_records, IsPlaced, CanEmitRecords}, Walk.{CanWalk, TreeRead}}
+use Rattle.scan.proofs.{Placing.{AllPlaced, more, Stands}, TreeLaws.{trees-words, trees-long}}
 
 -- A text of the list's tokens, and the records of its tree.
 pub record Found (list : List ℕ) (u : ℕ → Bool) (version : ℤ) (R : List ℕ) : Type 0 where

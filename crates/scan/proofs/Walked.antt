@@ -1,19 +1,19 @@
 -- THE WALK'S THEOREM: if the walk ends, its list is a well-formed text, and the records are the nodes of the text's tree (`walk-text`); so they
 -- are the nodes of the tree that the list reads to (`walk-tree`).
-use Prim.Native.Nat.{ℕ, zero, suc, ◌+◌, ◌*◌, ◌/◌, ◌≤◌, ◌<◌}
-use mathlib.Core.{Path.{◌≡◌, refl, ap, ap₂, sym, subst, ◌∙◌}, Bool.{Bool, true, false, ◌&&◌, ◌||◌, not, true≢false, false≢true}}
-use mathlib.Core.{List.{List, [], ◌∷◌}, Option.{Option, none, some}}
+use Prim.Native.Nat.{ℕ, zero, suc, ◌*◌, ◌≤◌, ◌<◌}
+use mathlib.Core.{Path.{◌≡◌, refl, ap, sym, subst, ◌∙◌}, Bool.{Bool, true, false, ◌||◌, true≢false, false≢true}}
+use mathlib.Core.{List.{List, [], ◌∷◌}, Option.{none}}
 use native.Mathlib.Omega.{arith}
-use lib.{Dec.{T, leb, leb→le, le→leb}, IntN.{ℤ, pos, negsuc}, ListN.{length, drop}}
+use lib.{Dec.{leb}, IntN.{ℤ, pos, negsuc}, ListN.{length, drop}}
 use Rattle.molang.specs.Operator
 use Rattle.molang.specs.{Operator.{any, is_operator}, Forest.{Token, Forest, nil, node}, Order.{Rules, rules, is_from, effective}}
 use Rattle.molang.specs.{Read.{tree, read, uses}, Grammar.{Text, tokens, outline, is_list, is_text, well_formed, trees, Serves}}
-use Rattle.molang.proofs.{Booleans.{either}, Computed.{computed}, Grammar.Given.{and_both}, Grammar.{text-reads}}
+use Rattle.molang.proofs.{Computed.{computed}, Grammar.Given.{and_both}, Grammar.{text-reads}}
 use Rattle.molang.proofs.Versions.{reads_as, rules-of-three}
-use Rattle.scan.specs.{Laid.{Entry, laid_onto}, Entries.{nth, entries_of}, Views.{View}}
+use Rattle.scan.specs.{Laid.{laid_onto}, Entries.{nth, entries_of}, Views.{View}}
 use Rattle.scan.specs.{Turns.{Walking, Turning, want, have, done, gives_up, turned_once, Walks, stays, goes, start}, Tables.{table_of, entry_in}}
 use Rattle.scan.proofs.{Frames.{outside, after, laid_after, has_minus}, Settling.{bottom}}
-use Rattle.scan.proofs.{Told.{Told, told_below, told-five, told-six}, Kept.{Known, Awaits, Reads, Finished, Holds}}
+use Rattle.scan.proofs.{Told.{Told, told_below, told-five, told-six}, Kept.{Known, Awaits, Holds}}
 use Rattle.scan.proofs.{Wanting.{want_kept}, Opening.{stated-list, have-kept}}
 
 -- ---- the table of a version

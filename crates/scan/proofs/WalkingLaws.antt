@@ -1,15 +1,15 @@
 -- A turn of the code takes the walk on: to where an operand is wanted or has been read, or to its end.
-use Prim.Native.Nat.{ℕ, suc, ◌+◌, ◌*◌, ◌/◌, ◌%◌, ◌-◌, ◌≤◌, ◌<◌}
+use Prim.Native.Nat.{ℕ, ◌%◌, ◌≤◌, ◌<◌}
 use native.Mathlib.Omega.{arith}
-use mathlib.Core.{Path.{◌≡◌, refl, ap, sym, subst, ◌∙◌}, Bool.{Bool, true, false}, List.{List, [], ◌∷◌}}
-use lib.ListN.{length, drop}
+use mathlib.Core.{Path.{◌≡◌, ap, sym, subst, ◌∙◌}, List.{List}}
+use lib.ListN.{length}
 use Rattle.ops.specs.declared.sets.OpSet.{OpSet}
 use Rattle.scan.specs.{declared.stack.State.{State}, declared.steps.Turn.{Turn}}
-use Rattle.scan.specs.{declared.steps.Turn.TheVariants.{Want, Have, Done, GivesUp}, Views.{View, Based}}
-use Rattle.scan.specs.Turns.{Turning, want, have, done, gives_up, have_turn, want_turn, turned_once, Walks, stays, goes, start}
-use Rattle.scan.specs.States.{stack_of, view_of, Becomes, Turns, wants, haves, ends, stops, given, UpTo, CanMakeTurn, Goes, CameTo, to-want}
+use Rattle.scan.specs.{declared.steps.Turn.TheVariants.{Want, Have, Done}, Views.{View, Based}}
+use Rattle.scan.specs.Turns.{Turning, want, have, done, have_turn, want_turn, turned_once, Walks, goes, start}
+use Rattle.scan.specs.States.{view_of, Becomes, Turns, wants, haves, ends, stops, given, UpTo, CanMakeTurn, Goes, CameTo, to-want}
 use Rattle.scan.specs.{States.{to-have, to_end, nowhere, WentOn}, Scanning.{ComesToEnd}}
-use Rattle.scan.proofs.FitLaws.{Fit, Fits, at-want, at_have, at_done, at_none, have-fits, want-fits}
+use Rattle.scan.proofs.FitLaws.{Fit, Fits, at-want, at_have, have-fits, want-fits}
 
 module _ (list table : List ℕ) (used : OpSet) (W : List ℕ) (s : State) where
   can-go : {W' : List ℕ} {t : State} {v : View} → UpTo list s.left → Becomes W W' t v → Fit s.left v

@@ -1,26 +1,25 @@
 -- THE TURNS BY WHICH AN OPERAND IS WANTED keep what holds of the walk: a leaf, a closer, an empty math call.
-use Prim.Native.Nat.{ℕ, zero, suc, ◌+◌, ◌*◌, ◌-◌, ◌/◌, ◌%◌, ◌≤◌, ◌<◌}
+use Prim.Native.Nat.{ℕ, ◌+◌, ◌*◌, ◌-◌, ◌/◌, ◌%◌, ◌≤◌, ◌<◌}
 use mathlib.Core.Path.{◌≡◌, refl, ap, ap₂, sym, subst, ◌∙◌}
-use mathlib.Core.{Bool.{Bool, true, false, ◌&&◌, ◌||◌, not, true≢false, false≢true, and-eq-true_iff}, List.{List, [], ◌∷◌}}
-use mathlib.Core.Option.{Option, none, some}
+use mathlib.Core.{Bool.{Bool, true, false, ◌&&◌, not, false≢true, and-eq-true_iff}, List.{List, [], ◌∷◌}}
 use native.Mathlib.Omega.{arith}
-use lib.{Dec.{eqb, leb, ltb}, ListN.{length, drop}}
+use lib.{Dec.{eqb, leb, ltb}, ListN.{drop}}
 use borrow.Author.Tests.{leb-true, eqb-true, eq-eqb, ne_eqb, not-true, ltb-true}
 use Rattle.molang.specs.Operator
-use Rattle.molang.{specs.Operator.{is_operator, is_math_call}, specs.Forest.{Token, nil, node, count, closed_by}, specs.Order.{Rules, order}}
+use Rattle.molang.{specs.Operator.{is_operator, is_math_call}, specs.Forest.{Token, count, closed_by}, specs.Order.{Rules}}
 use Rattle.molang.specs.Grammar.{Text, tokens, rank, strength, outline, is_statement, is_text, is_pair, is_round, ends_operand, begins_with}
 use Rattle.molang.{specs.Grammar.{signed, trees}, proofs.Grammar.Given.{and_both}}
 use Rattle.molang.specs.Grammar as Texts
-use Rattle.scan.specs.{Laid.{Entry, laid_onto}, Entries.{nth, token_at, record_entry, entries_of}}
-use Rattle.scan.specs.Views.{View, Lists, top_word, tail_of, read_from, pushed, popped, laid}
-use Rattle.scan.specs.Turns.{Walking, Turning, want, have, done, gives_up, op_of_place, op_before, is_let, want_class, minus_class, call_class}
+use Rattle.scan.specs.{Laid.{Entry, laid_onto}, Entries.{token_at, entries_of}}
+use Rattle.scan.specs.Views.{View, top_word, tail_of, read_from, pushed, popped, laid}
+use Rattle.scan.specs.Turns.{Walking, Turning, gives_up, op_of_place, is_let, want_class, minus_class, call_class}
 use Rattle.scan.specs.Turns.{section_laid, call_laid, leaf_turn, closer_turn, is_empty_call, empty_turn, want_by, want_turn}
-use Rattle.scan.proofs.Frames.{placed, Frames, outside, waits, colon, closes, after, laid_after, has_minus, rank_of, Stated, Fits}
-use Rattle.scan.proofs.{Frames.{Stacked}, Laying.{is_item}, Settling.{StackIs, bottom, joint, pair, closer, Closes, Held, Stands}}
-use Rattle.scan.proofs.Told.{Told, leaf_test, binary_test, math_test, ends_before, implies, implied}
+use Rattle.scan.proofs.Frames.{placed, Frames, outside, waits, colon, closes, after, laid_after, has_minus, rank_of}
+use Rattle.scan.proofs.{Frames.{Stacked}, Laying.{is_item}, Settling.{StackIs, bottom, joint, pair, closer, Closes}}
+use Rattle.scan.proofs.Told.{leaf_test, binary_test, math_test, ends_before, implies, implied}
 use Rattle.scan.proofs.EntryLaws.{leaf-entry, over-entry, section-entry}
 use Rattle.scan.proofs.Reaching.{At, back, token-there, before-is, Seen, seen_more}
-use Rattle.scan.proofs.Kept.{Known, Awaits, Reads, Finished, Holds, Item, reads-item, unsigned, small}
+use Rattle.scan.proofs.Kept.{Known, Awaits, Reads, Holds, reads-item, unsigned, small}
 
 -- A closer waits on top.
 pub data TopCloser (T : List Token) (r : Rules) (grade : ℕ → ℕ) : Frames → List ℕ → Type 0 where

@@ -1,5 +1,5 @@
 -- What emission asks and ensures: the words of a record's node, by the list's words.
-use Rattle.std.specs.Prelude.{ℕ, zero, suc, ◌+◌, ◌*◌, ◌-◌, ◌≤◌, ◌<◌, Bool, true, false, List, [], ◌∷◌, ◌++◌, length, get_or}
+use Rattle.std.specs.Prelude.{ℕ, zero, suc, ◌+◌, ◌*◌, ◌-◌, ◌≤◌, ◌<◌, List, [], ◌∷◌, ◌++◌, length, get_or}
 use Rattle.molang.specs.Words.{word, low_of}
 use Rattle.words.specs.Fields.{with_operator}
 use Rattle.words.specs.Tokens.{token_words_at, bare_words, seven_words}

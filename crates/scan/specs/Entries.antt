@@ -1,5 +1,5 @@
 -- What a record stands for in a list: the label of its node and its number of children.
-use Rattle.std.specs.Prelude.{ℕ, zero, suc, ◌/◌, Bool, true, false, List, [], ◌∷◌}
+use Rattle.std.specs.Prelude.{ℕ, zero, suc, ◌/◌, true, false, List, [], ◌∷◌}
 use Rattle.molang.specs.Operator
 use Rattle.molang.specs.Forest.{Token, renamed, bare, closed_by}
 use Rattle.scan.specs.Laid.{Entry}

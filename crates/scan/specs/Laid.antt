@@ -1,5 +1,5 @@
 -- The nodes of trees in preorder, as the walk lays them down (from the last to the first): each with its label and its number of children.
-use Rattle.std.specs.Prelude.{ℕ, List, [], ◌∷◌}
+use Rattle.std.specs.Prelude.{ℕ, List, ◌∷◌}
 use Rattle.molang.specs.Forest.{Token, Forest, nil, node, count}
 
 pub record Entry : Type 0 where

@@ -1,6 +1,6 @@
 -- THE WALK'S STATE IN WORDS: what waits is a stack of one word each from the first word on, the records stand at the words' end.
 -- Everything that the walk does to the words is said of the view that they are of, and nothing of the words between.
-use Rattle.std.specs.Prelude.{ℕ, zero, suc, ◌+◌, ◌-◌, ◌%◌, ◌≤◌, ◌<◌, ◌≡◌, Bool, true, false, ◌||◌, List, [], ◌∷◌, length, get_or, drop, eqb, leb}
+use Rattle.std.specs.Prelude.{ℕ, zero, suc, ◌-◌, ◌%◌, ◌≤◌, ◌<◌, ◌≡◌, Bool, true, false, ◌||◌, List, [], ◌∷◌, length, get_or, drop, eqb, leb}
 use Rattle.molang.specs.Operator
 use Rattle.molang.specs.Words.{tokens_of}
 use Rattle.molang.specs.Parse.{in_halves}
@@ -11,7 +11,7 @@ use Rattle.scan.specs.declared.steps.Turn.TheVariants.{Want, Have, Done, GivesUp
 use Rattle.scan.specs.Entries.{token_at}
 use Rattle.scan.specs.Tables.{entry_in}
 use Rattle.scan.specs.Views.{View, top_word, Based}
-use Rattle.scan.specs.Turns.{Walking, Turning, want, have, done, gives_up, have_class, Walks, start}
+use Rattle.scan.specs.Turns.{Walking, Turning, want, have, done, have_class, Walks, start}
 
 -- The words of a stack so deep, from the top.
 unfoldable pub stack_of : List ℕ → ℕ → List ℕ

@@ -1,7 +1,7 @@
 -- THE TABLE: an entry for each operator of document 01 and a last one for every host's name, under the rules of a version. Its bits: 0-2
 -- what the operator is where an operand is wanted, 3-6 where one has been read, 7-8 what a minus after it is, 9-10 how it is called, 27-31
 -- its grade.
-use Rattle.std.specs.Prelude.{ℕ, Bool, true, false, List, [], ◌∷◌, ltb, get_or}
+use Rattle.std.specs.Prelude.{ℕ, true, false, List, [], ◌∷◌, ltb, get_or}
 use Rattle.molang.specs.Order.{Rules}
 
 unfoldable pub below_five : List ℕ

@@ -2,7 +2,7 @@
 -- been read. A word of the stack is an operator's (its grade from bit 27 on, below bit 26 the record that it becomes), that of a `:` that
 -- waits for its `?` (bit 26 alone above the record), or a closer's (its number from bit 15 on, its place below); the lowest is the whole
 -- list's. The walk gives up where it does not read a list; nothing is said of such a list.
-use Rattle.std.specs.Prelude.{ℕ, suc, ◌+◌, ◌*◌, ◌-◌, ◌/◌, ◌%◌, ◌≡◌, Bool, true, false, ◌&&◌, ◌||◌, List, [], ◌∷◌, eqb, leb, ltb}
+use Rattle.std.specs.Prelude.{ℕ, ◌+◌, ◌*◌, ◌-◌, ◌/◌, ◌%◌, Bool, true, false, ◌&&◌, ◌||◌, List, [], ◌∷◌, eqb, leb, ltb}
 use Rattle.molang.specs.Operator
 use Rattle.molang.specs.Forest.{Token}
 use Rattle.scan.specs.Entries.{token_at}

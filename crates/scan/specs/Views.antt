@@ -1,6 +1,6 @@
 -- THE WALK'S STATE as two lists and a place: what waits, the word that was pushed last first; the records, the one that was laid down last
 -- first; the place of the last token that was read. And what the walk does to them, a word at a time.
-use Rattle.std.specs.Prelude.{ℕ, zero, suc, ◌+◌, ◌*◌, ◌/◌, ◌%◌, ◌≤◌, ◌<◌, ◌≡◌, Bool, true, false, List, [], ◌∷◌, leb}
+use Rattle.std.specs.Prelude.{ℕ, ◌/◌, ◌%◌, ◌≡◌, true, false, List, [], ◌∷◌, leb}
 
 pub record View : Type 0 where
   pub left : ℕ

@@ -2,7 +2,7 @@
 -- done, the last first, stand in the array's front, the tokens not read yet in its end, and the definition's answer from there on is that
 -- of the whole list.
 use Prim.Native.Nat.{ℕ, ◌+◌, ◌-◌, ◌≤◌, ◌<◌}
-use mathlib.Core.{Path.{◌≡◌, refl, sym, ap, ◌∙◌}, Logic.{◌≢◌, inl, inr, ⊎_elim}, Bool.{true, false}, List.{List, [], ◌∷◌}, Option.{some}}
+use mathlib.Core.{Path.{◌≡◌, refl, sym, ap, ◌∙◌}, Logic.{◌≢◌, inl, inr, ⊎_elim}, Bool.{true, false}, List.{List, [], ◌∷◌}}
 use native.Mathlib.{Omega.{arith}, Nat.{le_refl, add-zero}}
 use lib.ListN.{length, set}
 use Rattle.molang.specs.{Operator.{member_accessor, has_members}, Forest.{Token, Forest, nil, node, leaves, in_order, count}}

@@ -1,7 +1,7 @@
 -- One token of the section walk: `close_section` and `look`, against the definition's `closing` and `bracket`.
 use Prim.Native.Nat.{ℕ, zero, suc, ◌+◌, ◌*◌, ◌-◌, ◌≤◌, ◌<◌}
 use mathlib.Core.{Path.{◌≡◌, refl, sym, ap, ◌∙◌, subst}, Logic.{◌≢◌, ◌⊎◌, inl, inr, ⊎_elim}, Bool.{true, false}, List.{List, [], ◌∷◌}}
-use mathlib.Core.Option.{none, get_or}
+use mathlib.Core.Option.{get_or}
 use native.Mathlib.{Omega.{arith}, Nat.{le_refl}}
 use lib.ListN.{length, set}
 use Rattle.molang.{specs.Operator.{closing_of, is_closer}, specs.Forest.{Token, Forest, nil, node, in_order, closed_by}}

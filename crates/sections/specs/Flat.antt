@@ -5,7 +5,7 @@ use Rattle.std.proofs.Math.Option.{some}
 use Rattle.molang.specs.Operator.{member_accessor}
 use Rattle.molang.specs.Forest.{Token, Forest, nil, node, leaves}
 use Rattle.molang.specs.Message.{Message, Result, ok, fail}
-use Rattle.molang.specs.Sections.{with_member, members, Open, outside, section, position, outermost, Walked, going, mismatch, closing}
+use Rattle.molang.specs.Sections.{with_member, members, Open, outside, section, position, Walked, going, mismatch, closing}
 use Rattle.molang.specs.Sections.{bracket, sections}
 use Rattle.molang.specs.Free.{flat}
 use Rattle.ops.specs.Operators.{is_opener}

@@ -1,6 +1,6 @@
 -- Answer 12 and what it leaves: words without fault are one tree in its layout; and what the loops over the words have seen.
 use Prim.Native.Nat.{ℕ, suc, ◌+◌, ◌-◌, ◌*◌, ◌≤◌, ◌<◌}
-use mathlib.Core.{Path.{◌≡◌, refl, ap, ◌∙◌}, Bool.{true}, List.{List}, Option.{Option, none, some}}
+use mathlib.Core.{Path.{◌≡◌, refl, ap}, Bool.{true}, List.{List}, Option.{none}}
 use native.Mathlib.{Numerals.{add-one}, Omega.{arith}}
 use lib.ListN.{length, get_or, take}
 use borrow.Author.Tests.{eqb-true}

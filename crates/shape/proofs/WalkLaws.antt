@@ -6,7 +6,7 @@ use native.Mathlib.{Numerals.{add-one}, Omega.{arith}}
 use lib.{Dec.{leb}, ListN.{length, get_or, drop, drop_of_length-le}, Seq.{drop-cons}}
 use borrow.Author.Tests.{leb-true, le-leb, lt-leb}
 use Rattle.molang.specs.Words.{Field, operator_field, start_field, end_field, upper_field, lower_field, count_field, close_field, word_fault}
-use Rattle.molang.specs.{Words.{low_fault, variant_after}, WriteEntry.{most_nodes, next_in_node}, FirstFailure.{must}}
+use Rattle.molang.specs.{Words.{low_fault, variant_after}, WriteEntry.{most_nodes, next_in_node}}
 use Rattle.molang.proofs.{FirstFailure.{must-true, must-false, found, after_none}, NodeWalk.{Walk, Fits, AllFit, after_all, tests}}
 use Rattle.shape.specs.{Answers.{is_legal}, Seen.{LegalNode}}
 

@@ -2,11 +2,11 @@
 use Prim.Native.Nat.{ℕ, suc, ◌+◌, ◌≤◌, ◌<◌}
 use mathlib.Core.{Path.{◌≡◌, refl, sym, ◌∙◌}, Bool.{true}, List.{List}}
 use native.Mathlib.{Numerals.{add-one}, Omega.{arith}}
-use lib.{Dec.{leb}, ListN.{length, get_or}}
+use lib.{ListN.{length, get_or}}
 use borrow.Author.Tests.{le-leb, lt-leb}
 use Rattle.molang.specs.{Words.{Field, operator_field, count_field, variant_after}, WriteEntry.{most_nodes, next_in_node, shape_after}}
 use Rattle.molang.specs.StackOrder.{Stack, stack_after, trees_asked, least_nodes, stack_continues}
-use Rattle.molang.proofs.{NodeWalk.{by_field, begins}, TreeWords.{tree-more}, StackWords.{stack-more, least-within, stack_walk}}
+use Rattle.molang.proofs.{NodeWalk.{by_field}, TreeWords.{tree-more}, StackWords.{stack-more, least-within, stack_walk}}
 use Rattle.shape.{specs.Answers.{shape}, specs.Shaped.{count_index}, proofs.WalkLaws.{walked, fault-later, fault-node}}
 use Rattle.words.specs.Tokens.{node_length}
 use Rattle.stackorder.specs.Faults.{stack, uncounted, Stacked, NextStacked}

@@ -1,12 +1,13 @@
-// Standard input with its failures told. `io` takes a failed read for the end of the input; here the two are apart. Leans on libc (a read,
-// which answers -1 if it fails) and io (how many bytes that is); specs/Came has the definitions.
+// A reader with its failures told: that the input has ended and that a read failed are apart. Leans on std (a read); specs/Came has the
+// definitions.
 #![tactic(auto)]
 
-ghost use Rattle.std.specs.Prelude.{◌≡◌, length};
+ghost use Rattle.std.specs.Prelude.{◌≡◌, length, take};
+ghost use Rattle.std.specs.Io.KnownBytes.{Consumes};
 ghost use Rattle.io.specs.Counts.{IsPrefixLen};
 ghost use Rattle.streams.specs.Came.{FullBy};
 
-use libc::STDIN_FILENO;
+use std::io::Read;
 
 // Why reading stopped: the buffer is full, the input has ended, or a read failed.
 #[derive(Clone, Copy)]
@@ -23,21 +24,20 @@ pub struct Came {
     pub end: End,
 }
 
-// Reads until the buffer is full, the input ends or a read fails.
-pub fn fill(buffer: &mut [u8]) -> Came
+// Reads until the buffer is full, the input ends or a read fails. The bytes that a reader gives are taken from those that it has.
+pub fn fill<R: Read>(input: &mut R, buffer: &mut [u8]) -> Came
     ensures prefix_len { IsPrefixLen result.bytes buffer.new }
     ensures full_by { FullBy result.end result.bytes (length buffer.new) }
+    ensures taken { Consumes (R.remaining input.old) (R.remaining input.new) (take result.bytes buffer.new) }
 {
     let mut bytes = 0usize;
     while bytes < buffer.len() {
-        let got = libc::read(STDIN_FILENO, &mut buffer[bytes..]);
-        if got < 0 {
+        let Ok(more) = input.read(&mut buffer[bytes..]) else {
             return Came {
                 bytes,
                 end: End::Failed,
             };
-        }
-        let more = io::count(got, &buffer[bytes..]);
+        };
         if more == 0 {
             return Came {
                 bytes,

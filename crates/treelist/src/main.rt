@@ -13,9 +13,9 @@ ghost use Rattle.treelist.specs.Listing.{printed};
 ghost use Rattle.treelist.specs.Input.{RestRead, Came, IsPrinted};
 
 use crate::asked::answer;
-use libc::{STDERR_FILENO, STDOUT_FILENO};
 use listing::bytes::words_of;
 use listing::rows::put_answer;
+use std::io::Read;
 use streams::{End, fill};
 use text::put_bytes;
 
@@ -48,11 +48,11 @@ struct Rest {
 }
 
 // One chunk more. `count_rest` has room for its length.
-fn read_on(rest: Rest, space: &mut [u8]) -> Rest
+fn read_on<R: Read>(input: &mut R, rest: Rest, space: &mut [u8]) -> Rest
     requires { (length space.old ≡ 65536) × (rest.bytes + 65536 < 2 ^ 64) }
     ensures { (result.last ≤ length space.new) × (result.bytes ≡ rest.bytes + result.last) }
 {
-    let came = fill(space);
+    let came = fill(input, space);
     let last = came.bytes;
     let end = came.end;
     Rest {
@@ -63,7 +63,7 @@ fn read_on(rest: Rest, space: &mut [u8]) -> Rest
 }
 
 // Reads on as long as chunks fill the space, which `go_on` lends.
-fn count_rest(space: &mut [u8]) -> Rest
+fn count_rest<R: Read>(input: &mut R, space: &mut [u8]) -> Rest
     requires { length space.old ≡ 65536 }
     ensures { RestRead space.new result.last result.bytes }
 {
@@ -75,7 +75,7 @@ fn count_rest(space: &mut [u8]) -> Rest
     let mut turns = TURNS;
     while 0 < turns {
         turns -= 1;
-        let next = read_on(rest, space);
+        let next = read_on(input, rest, space);
         let end = next.end;
         let End::Full = end else {
             return next;
@@ -86,55 +86,56 @@ fn count_rest(space: &mut [u8]) -> Rest
 }
 
 // A line on standard error; nothing more is printed.
-fn fail(line: &[u8]) {
-    io::write_all(STDERR_FILENO, line);
+fn fail<E: Eprint>(rt: &E, line: &str) {
+    let _ = rt.eprintln(line);
 }
 
-fn unread() {
-    fail(b"treelist: a read failed, and nothing is printed\n");
+fn unread<E: Eprint>(rt: &E) {
+    fail(rt, "treelist: a read failed, and nothing is printed");
 }
 
 // Hands a text to `write`: it is what is printed for an input.
-fn hand(text: &[u8])
+fn hand<S: Print + Eprint>(rt: &S, text: &[u8])
     requires { IsPrinted text.now }
 {
-    if !io::write_all(STDOUT_FILENO, text) {
-        fail(b"treelist: a write failed, and the text is not whole\n");
+    if rt.write_all(text).is_err() {
+        fail(rt, "treelist: a write failed, and the text is not whole");
     }
 }
 
 // Answers an input of so many bytes, of which the front came.
-fn answer_input(front: &[u8], bytes: usize)
+fn answer_input<S: Print + Eprint>(rt: &S, front: &[u8], bytes: usize)
     requires { Came front.now bytes }
 {
     let mut whole = [0u8; 2564];
     put_bytes(&mut whole, 0, front);
     let mut out = [0u8; 32_768];
     let n = listing(&whole, bytes, &mut out);
-    hand(&out[..n]);
+    hand(rt, &out[..n]);
 }
 
 // The input has a whole front: how much comes behind it.
-fn go_on(front: &[u8])
+fn go_on<R: Read, S: Print + Eprint>(input: &mut R, rt: &S, front: &[u8])
     requires { length front.now ≡ 2564 }
 {
     let mut space = io::large_buffer();
-    let rest = count_rest(&mut space);
+    let rest = count_rest(input, &mut space);
     let end = rest.end;
     match end {
-        End::Ended => answer_input(front, FRONT + rest.bytes),
-        End::Full | End::Failed => unread(),
+        End::Ended => answer_input(rt, front, FRONT + rest.bytes),
+        End::Full | End::Failed => unread(rt),
     }
 }
 
-fn main() {
+fn main(rt: HostRuntime) {
+    let mut input = rt.stdin();
     let mut front = [0u8; 2564];
-    let came = fill(&mut front);
+    let came = fill(&mut input, &mut front);
     let n = came.bytes;
     let end = came.end;
     match end {
-        End::Full => go_on(&front),
-        End::Ended => answer_input(&front[..n], n),
-        End::Failed => unread(),
+        End::Full => go_on(&mut input, &rt, &front),
+        End::Ended => answer_input(&rt, &front[..n], n),
+        End::Failed => unread(&rt),
     }
 }

@@ -1,6 +1,5 @@
 -- `accept::accept` meets its contract: the parts of the table in order. Assumes nothing.
 use mathlib.Core.Path.{sym, ap, ◌∙◌}
-use borrow.Author.Rules.{rules}
 use Rattle.accept.specs.Accepting.{verdict_of}
 use Rattle.accept.proofs.{AcceptLaws.{by_length, whole-tokens, by_values, by-words, by-nesting}}
 use Rattle.accept.proofs.accept.Goals as goal

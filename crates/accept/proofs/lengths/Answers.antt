@@ -2,7 +2,7 @@
 use Prim.Native.Nat.{ℕ, ◌+◌, ◌*◌, ◌/◌, ◌%◌}
 use native.Mathlib.Omega.{arith}
 use lib.ListN.{length, length-replicate}
-use borrow.Author.{Rules.{rules}, Tests.{eq-eqb, ne_eqb, le-leb, lt-leb}}
+use borrow.Author.{Tests.{eq-eqb, ne_eqb, le-leb, lt-leb}}
 use Rattle.molang.specs.{FirstFailure.{must, first_of}, Parse.{most_tokens, length_rows}}
 use Rattle.accept.proofs.lengths.Goals as goal
 

@@ -1,12 +1,11 @@
 -- `accept::nesting` meets its contract: what the operator-bitss of the whole list answer is answered by the tokens that are left. Assumes
 -- nothing.
-use Prim.Native.Nat.{ℕ, ◌-◌}
+use Prim.Native.Nat.{ℕ}
 use mathlib.Core.{Path.{◌≡◌, sym, ap, ◌∙◌}, Option.{Option}}
 use native.Mathlib.Omega.{arith}
-use borrow.Author.Rules.{rules}
 use Rattle.molang.specs.{Nesting.{open_after}, Words.{with_number}}
 use Rattle.accept.specs.Accepting.{verdict}
-use Rattle.accept.proofs.AcceptLaws.{same-open, WithinTo, within_first, within-short, within-last, within_on, goes_above}
+use Rattle.accept.proofs.AcceptLaws.{same-open, within_first, within-short, within-last, within_on, goes_above}
 use Rattle.accept.proofs.nesting.Goals as goal
 
 pub returns-then-n-most : goal.returns-then-n-most

@@ -1,11 +1,6 @@
 -- `accept::nesting` meets its contract: what the operator-bitss of the whole list answer is answered by the tokens that are left. Assumes
-use Prim.Native.Nat.{ℕ, ◌-◌}
-use mathlib.Core.{Path.{◌≡◌, sym, ap, ◌∙◌}, Option.{Option}}
-use native.Mathlib.Omega.{arith}
-use borrow.Author.Rules.{rules}
-use Rattle.molang.specs.{Nesting.{open_after}, Words.{with_number}}
-use Rattle.accept.specs.Accepting.{verdict}
-use Rattle.accept.proofs.AcceptLaws.{same-open, WithinTo, within_first, within-short, within-last, within_on, goes_above}
+use Prim.Native.Nat.{◌-◌}
+use Rattle.accept.proofs.AcceptLaws.{WithinTo}
 use Rattle.accept.proofs.nesting.Given as goal
 
 abbrev pub invariant-loop-index : goal.invariant-loop-index

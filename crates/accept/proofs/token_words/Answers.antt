@@ -1,12 +1,11 @@
 -- `accept::token_words` meets its contract: what the check of the whole list answers is answered by the words that are left. Assumes
 -- nothing.
-use Prim.Native.Nat.{◌+◌, ◌*◌, ◌-◌}
+use Prim.Native.Nat.{◌+◌, ◌*◌}
 use mathlib.Core.{Path.{◌≡◌, refl, sym, ap, ◌∙◌}, Option.{none}}
 use native.Mathlib.Omega.{arith}
 use Rattle.words.specs.Checks.{token_refusal}
 use Rattle.accept.specs.Accepting.{verdict}
-use borrow.Author.Rules.{rules}
-use Rattle.accept.proofs.{AcceptLaws.{PassedTo, check_from, token-good, token-bad, all-good}}
+use Rattle.accept.proofs.{AcceptLaws.{check_from, token-good, token-bad, all-good}}
 use Rattle.accept.proofs.token_words.Goals as goal
 
 pub loop-i-preserved : goal.loop-i-preserved

@@ -3,7 +3,7 @@ use mathlib.Core.{Path.{◌≡◌, sym, ◌∙◌}, Bool.{true, false}}
 use Prim.Native.Nat.{◌+◌, ◌*◌, ◌^◌}
 use native.Mathlib.Omega.{arith}
 use lib.Dec.{ltb}
-use borrow.Author.{Rules.{rules}, Tests.{le-leb, lt-leb, not-true, not-false}}
+use borrow.Author.{Tests.{le-leb, lt-leb, not-true, not-false}}
 use Rattle.molang.specs.{FirstFailure.{must, first_of}, Parse.{is_limit}}
 use Rattle.accept.specs.Accepting.{value_refusal}
 use Rattle.accept.proofs.values.Goals as goal

@@ -2,7 +2,6 @@
 use Prim.Native.Nat.{max}
 use mathlib.Core.Path.{◌≡◌, sym, ap, ◌∙◌}
 use native.Mathlib.Omega.{arith}
-use borrow.Author.Rules.{rules}
 use Rattle.molang.specs.Words.{end_field}
 use Rattle.words.{specs.Checks.{number_of}, proofs.CheckLaws.{end-tests}}
 use Rattle.derived.specs.Derived.{end_after}

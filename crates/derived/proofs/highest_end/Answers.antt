@@ -1,10 +1,9 @@
 -- `derived::highest_end` meets its contract. The loop's invariant: the highest end of the words that are left, after what was seen so far,
 -- is that of all. The measure is what is left of the words. Assumes nothing.
-use Prim.Native.Nat.{ℕ, ◌+◌, ◌-◌}
-use mathlib.Core.Path.{◌≡◌, sym, ap, ◌∙◌}
-use borrow.Author.Rules.{rules}
-use lib.ListN.{length, drop}
-use Rattle.molang.specs.Words.{operator_field, end_field}
+use Prim.Native.Nat.{ℕ, ◌+◌}
+use mathlib.Core.Path.{sym, ap, ◌∙◌}
+use lib.ListN.{drop}
+use Rattle.molang.specs.Words.{end_field}
 use Rattle.derived.specs.Derived.{highest}
 use Rattle.derived.proofs.{WordLaws.{from-third, highest-on, highest-end}}
 use Rattle.derived.proofs.highest_end.Goals as goal

@@ -1,9 +1,8 @@
 -- `derived::used_of` meets its contract. The loop's invariant: the operators seen so far and those of the words that are left are those of
 -- all. The measure is what is left of the words. Assumes nothing.
-use Prim.Native.Nat.{ℕ, ◌+◌, ◌-◌}
-use mathlib.Core.{Path.{◌≡◌, sym, ap, ◌∙◌}, Bool.{Bool, ◌||◌, or-false, or_assoc}}
-use borrow.Author.Rules.{rules}
-use lib.ListN.{length, drop}
+use Prim.Native.Nat.{◌+◌}
+use mathlib.Core.{Path.{sym, ap, ◌∙◌}, Bool.{Bool, ◌||◌, or-false, or_assoc}}
+use lib.ListN.{drop}
 use Rattle.molang.specs.{Parse.{in_halves}, Words.{operator_field}}
 use Rattle.derived.specs.Derived.{named}
 use Rattle.derived.proofs.{SetLaws.{in-none}, WordLaws.{named-on, named_end}}

@@ -1,11 +1,9 @@
 -- `derived::used_of` meets its contract. The loop's invariant: the operators seen so far and those of the words that are left are those of
-use Prim.Native.Nat.{ℕ, ◌+◌, ◌-◌}
-use mathlib.Core.{Path.{◌≡◌, sym, ap, ◌∙◌}, Bool.{Bool, ◌||◌, or-false, or_assoc}}
-use borrow.Author.Rules.{rules}
+use Prim.Native.Nat.{ℕ, ◌-◌}
+use mathlib.Core.{Path.{◌≡◌}, Bool.{◌||◌}}
 use lib.ListN.{length, drop}
 use Rattle.molang.specs.{Parse.{in_halves}, Words.{operator_field}}
 use Rattle.derived.specs.Derived.{named}
-use Rattle.derived.proofs.{SetLaws.{in-none}, WordLaws.{named-on, named_end}}
 use Rattle.derived.proofs.used_of.Given as goal
 
 abbrev pub invariant-loop-i : goal.invariant-loop-i

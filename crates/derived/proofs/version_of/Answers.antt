@@ -2,7 +2,6 @@
 use Prim.Native.Nat.{◌-◌}
 use mathlib.Core.Path.{◌∙◌}
 use native.Mathlib.Omega.{arith}
-use borrow.Author.Rules.{rules}
 use mir.{Syntax.{w16}, Facts.{to_z_pos, to_z-of_z}}
 use Rattle.derived.proofs.{VersionLaws.{version_low, version-high, below-value, below-fits}}
 use Rattle.derived.proofs.version_of.Goals as goal

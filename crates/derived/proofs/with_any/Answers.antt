@@ -1,7 +1,6 @@
 -- `derived::with_any` meets its contract: a word that is not legal and one of a host leave the set as it is. Assumes nothing.
 use Prim.Native.Nat.{ℕ}
 use mathlib.Core.{Path.{◌≡◌, sym, ap, ◌∙◌}, Bool.{Bool, false, ◌||◌, or-false}, Option.{none}}
-use borrow.Author.Rules.{rules}
 use lib.Dec.{eqb}
 use Rattle.molang.specs.{Parse.{in_halves}, Words.{operator_field, word_fault}}
 use Rattle.words.specs.{Checks.{number_of}, Fields.{operator_of}}

@@ -1,7 +1,6 @@
 -- `derived::with_word` meets its contract: the operator of a legal word without a host's bits is its low byte. Assumes nothing.
 use Prim.Native.Nat.{ℕ, ◌%◌, ◌^◌}
 use mathlib.Core.{Path.{◌≡◌, sym, ap, ◌∙◌}, Bool.{Bool, ◌||◌}}
-use borrow.Author.Rules.{rules}
 use lib.Dec.{eqb}
 use Rattle.molang.specs.{Parse.{in_halves}, Words.{low_of, number_in}}
 use Rattle.words.specs.Fields.{operator_of}

@@ -1,6 +1,5 @@
 -- `ops::open_after` meets its contract: the count is raised, and one is taken where one is left. Assumes nothing.
 use native.Mathlib.Omega.{arith}
-use borrow.Author.Rules.{rules}
 use Rattle.ops.proofs.{OperatorLaws.{raise-few, open-raised}}
 use Rattle.ops.proofs.open_after.Goals as goal
 

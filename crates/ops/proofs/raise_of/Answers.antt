@@ -3,7 +3,7 @@ use Prim.Native.Nat.{ℕ, ◌*◌, ◌-◌, ◌%◌}
 use mathlib.Core.{Path.{sym}, List.{[], ◌∷◌}}
 use native.Mathlib.Omega.{arith}
 use lib.Dec.{eqb}
-use borrow.Author.{Rules.{rules}, Tests.{eqb-true}}
+use borrow.Author.{Tests.{eqb-true}}
 use Rattle.molang.specs.Operator.{any, is_one_of, closing_of, is_closer, right_brace, right_bracket, right_parenthesis}
 use Rattle.ops.specs.Operators.{raise_of}
 use Rattle.ops.proofs.{OperatorLaws.{true-at, Apart, apart, no-closer}}

@@ -1,6 +1,6 @@
 -- `order::choose` meets its contract. Assumes nothing.
 use mathlib.Core.Path.{sym, ◌∙◌}
-use borrow.Author.{Tests.{not-true, not-false}, Rules.{rules}}
+use borrow.Author.{Tests.{not-true, not-false}}
 use Rattle.order.proofs.Ranking.{chosen-run, chosen-unused, chosen-call, chosen-shut, gate-open, open-other}
 use Rattle.order.proofs.choose.Goals as goal
 use borrow.Enum.Refused.{opened}

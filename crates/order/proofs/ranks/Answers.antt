@@ -1,7 +1,6 @@
 -- `order::ranks` meets its contract: each table is the definition's order. Assumes nothing.
 use mathlib.Core.Path.{sym, ◌∙◌}
 use mir.Facts.{to_z-of_z}
-use borrow.Author.Rules.{rules}
 use Rattle.order.proofs.{Ranking.{before-5, at_5, from-6}}
 use Rattle.order.proofs.ranks.Goals as goal
 

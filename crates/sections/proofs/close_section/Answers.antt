@@ -2,7 +2,6 @@
 use Prim.Native.Nat.{ℕ, ◌+◌, ◌-◌, ◌≤◌, ◌<◌}
 use mathlib.Core.{Path.{◌≡◌, refl, ap, ◌∙◌}, Option.{get_or}}
 use native.Mathlib.Omega.{arith}
-use borrow.Author.Rules.{rules}
 use lib.ListN.{length}
 use Rattle.molang.specs.Operator.{closing_of}
 use Rattle.nodes.{specs.Store.{wd, slot_end}, specs.Slots.{op_at}, specs.Children.{CanGive}, proofs.Store.{tree-below}}

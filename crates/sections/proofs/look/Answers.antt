@@ -2,7 +2,6 @@
 use Prim.Native.Nat.{ℕ, ◌+◌, ◌^◌, ◌≤◌, ◌<◌}
 use mathlib.Core.{Path.{◌≡◌, refl, sym, ap, ◌∙◌}, Logic.{◌⊎◌, inl, inr, ⊎_elim}, Bool.{true, false}}
 use native.Mathlib.Omega.{arith}
-use borrow.Author.Rules.{rules}
 use lib.ListN.{length-set}
 use Rattle.molang.specs.{Operator.{is_closer}, Words.{operator_bits}}
 use Rattle.ops.{specs.Operators.{is_opener}, proofs.OperatorLaws.{apart, no-closer}}

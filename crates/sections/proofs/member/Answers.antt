@@ -1,7 +1,6 @@
 -- `sections::member` meets its contract.
 use mathlib.Core.{Path.{◌≡◌, refl, sym, ◌∙◌}, Bool.{true, false}}
 use native.Mathlib.Omega.{arith}
-use borrow.Author.Rules.{rules}
 use lib.ListN.{length-set}
 use Rattle.molang.specs.Operator.{has_members}
 use Rattle.sections.proofs.{SectionWritten.{store_kept}, MemberLaws.{member-in, member-under, member-after}}

@@ -1,12 +1,7 @@
 -- `sections::members` meets its contract.
-use Prim.Native.Nat.{◌+◌, ◌-◌, ◌*◌, ◌^◌, ◌≤◌, ◌<◌}
-use mathlib.Core.Path.{refl, sym, ◌∙◌}
-use native.Mathlib.Omega.{arith}
-use lib.ListN.{length}
-use Rattle.nodes.{specs.Store.{wd, slot_end}, proofs.Tokens.{from_bits, to_bits}}
+use Prim.Native.Nat.{◌-◌}
 use Rattle.sections.specs.Flat.{CanJoin}
-use Rattle.sections.proofs.MemberLaws.{Joining, JoinTurn, join-start, join-turn, join-in, join-leading, join-accessor, join-member}
-use Rattle.sections.proofs.{MemberLaws.{join-other, join-done}}
+use Rattle.sections.proofs.MemberLaws.{Joining}
 use Rattle.sections.proofs.members.Given as goal
 
 abbrev pub invariant-loop-read : goal.invariant-loop-read

@@ -1,7 +1,6 @@
 -- `sections::open_section` meets its contract.
 use native.Mathlib.Omega.{arith}
 use lib.ListN.{length-set}
-use borrow.Author.Rules.{rules}
 use Rattle.sections.proofs.open_section.Goals as goal
 
 pub bounds-work-marks : goal.bounds-work-marks

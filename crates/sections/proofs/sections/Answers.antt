@@ -1,8 +1,7 @@
 -- `sections::sections` meets its contract.
-use Prim.Native.Nat.{ℕ, ◌+◌, ◌-◌, ◌≤◌, ◌<◌}
-use mathlib.Core.{Path.{◌≡◌, refl, ◌∙◌}, List.{List}}
+use Prim.Native.Nat.{ℕ, ◌+◌, ◌<◌}
+use mathlib.Core.{Path.{refl, ◌∙◌}, List.{List}}
 use native.Mathlib.Omega.{arith}
-use borrow.Author.Rules.{rules}
 use lib.ListN.{length}
 use Rattle.nodes.specs.Store.{wd}
 use Rattle.sections.specs.Flat.{CanSection}

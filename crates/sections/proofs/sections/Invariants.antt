@@ -1,13 +1,8 @@
 -- `sections::sections` meets its contract.
-use Prim.Native.Nat.{ℕ, ◌+◌, ◌-◌, ◌≤◌, ◌<◌}
-use mathlib.Core.{Path.{◌≡◌, refl, ◌∙◌}, List.{List}}
-use native.Mathlib.Omega.{arith}
-use borrow.Author.Rules.{rules}
-use lib.ListN.{length}
-use Rattle.nodes.specs.Store.{wd}
+use Prim.Native.Nat.{ℕ, ◌-◌, ◌≤◌, ◌<◌}
+use mathlib.Core.{Path.{◌≡◌}, List.{List}}
 use Rattle.sections.specs.Flat.{CanSection}
-use Rattle.sections.proofs.SectionWalk.{Walking, WalkTurn, walk_start, walk_turn, walk-look, walk-on, walk-differs, walk-done}
-use Rattle.sections.proofs.{SectionWalk.{walk-named, walk-unclosed}, MatchingLaws.{loses-nothing}}
+use Rattle.sections.proofs.SectionWalk.{Walking}
 use Rattle.sections.proofs.sections.Given as goal
 
 abbrev pub invariant-open : goal.invariant-open

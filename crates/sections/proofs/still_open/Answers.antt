@@ -1,7 +1,6 @@
 -- `sections::still_open` meets its contract.
 use Prim.Native.Nat.{ℕ, ◌+◌}
 use mathlib.Core.Path.{refl, ap}
-use borrow.Author.Rules.{rules}
 use Rattle.nodes.specs.Store.{wd}
 use Rattle.sections.proofs.still_open.Goals as goal
 

@@ -4,7 +4,6 @@ use native.Mathlib.Numerals.{add-one}
 use Rattle.molang.specs.WriteEntry.{shape_after}
 use Rattle.shape.proofs.{CaseLaws.{not-operator}}
 use Rattle.shape.specs.Answers.{field_of, shape}
-use borrow.Author.Rules.{rules}
 use Rattle.shape.proofs.begun_after.Goals as goal
 use borrow.Enum.Refused.{opened}
 

@@ -4,7 +4,6 @@ use native.Mathlib.Omega.{arith}
 use Rattle.molang.specs.{Words.{low_of}, WriteEntry.{shape_after}}
 use Rattle.shape.proofs.{CaseLaws.{not-count}}
 use Rattle.shape.specs.Answers.{field_of, shape}
-use borrow.Author.Rules.{rules}
 use Rattle.shape.proofs.called_after.Goals as goal
 use borrow.Enum.Refused.{opened}
 

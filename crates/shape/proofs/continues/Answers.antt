@@ -1,7 +1,7 @@
 -- `shape::continues` meets its contract: by the word itself, then by the nodes that are called for. Assumes nothing.
 use mathlib.Core.Path.{sym, ◌∙◌}
 use native.Mathlib.Omega.{arith}
-use borrow.Author.{Tests.{not-true, not-false}, Rules.{rules}}
+use borrow.Author.{Tests.{not-true, not-false}}
 use Rattle.shape.specs.Answers.{field_of, shape}
 use Rattle.molang.{specs.WriteEntry.{continues}, proofs.TreeWords.{tree_walk}}
 use Rattle.shape.proofs.{WalkLaws.{illegal-stops, short-stops, walks-if}}

@@ -1,12 +1,10 @@
 -- `shape::fault_after` meets its contract. The loop's invariant: the fault of the words that are left, at what was seen so
 -- far, is the fault of all. The measure is what is left of the words. Assumes nothing.
-use Prim.Native.Nat.{◌-◌}
 use mathlib.Core.Path.{sym, ap, ◌∙◌}
 use native.Mathlib.Omega.{arith}
-use borrow.Author.{Rules.{rules}, Tests.{not-true, not-false}}
-use lib.ListN.{length}
+use borrow.Author.{Tests.{not-true, not-false}}
 use Rattle.molang.{specs.Words.{with_number}, specs.WriteEntry.{continues}, proofs.TreeWords.{tree_walk}}
-use Rattle.shape.specs.{Answers.{field_of, shape}, Seen.{Seen}}
+use Rattle.shape.specs.{Answers.{shape}}
 use Rattle.shape.proofs.{WalkLaws.{fault-here, fault-none, fault-end}, ShapeLaws.{seen_more}}
 use Rattle.shape.proofs.fault_after.Goals as goal
 

@@ -1,5 +1,4 @@
 -- `shape::first_fault` meets its contract: by the loop over the whole nodes and the loop over the words after them. Assumes nothing.
-use borrow.Author.Rules.{rules}
 use Rattle.shape.proofs.first_fault.Goals as goal
 
 pub fault_after-requires : goal.fault_after-requires

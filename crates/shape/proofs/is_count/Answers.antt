@@ -1,6 +1,6 @@
 -- `shape::is_count` meets its contract: by the word's kind and its low bits. Assumes nothing.
 use mathlib.Core.Path.{sym, ◌∙◌}
-use borrow.Author.{Rules.{rules}, Tests.{ne_eqb}}
+use borrow.Author.{Tests.{ne_eqb}}
 use Rattle.molang.specs.{Words.{field_kind, word_fault}, FirstFailure.{must, first_of}}
 use Rattle.shape.proofs.{CaseLaws.{legal-count}}
 use Rattle.shape.proofs.is_count.Goals as goal

@@ -1,6 +1,5 @@
 -- `shape::is_good` meets its contract: the good word, and the others. Assumes nothing.
 use Rattle.shape.proofs.{CaseLaws.{bad-word}}
-use borrow.Author.Rules.{rules}
 use Rattle.shape.proofs.is_good.Goals as goal
 use borrow.Enum.Refused.{opened}
 

@@ -2,7 +2,6 @@
 use mathlib.Core.Path.{ap, ◌∙◌}
 use Rattle.molang.specs.Words.{field_kind, low_fault, word_fault}
 use Rattle.shape.specs.Answers.{is_legal}
-use borrow.Author.Rules.{rules}
 use Rattle.shape.proofs.is_legal.Goals as goal
 
 pub returns-in-Start : goal.returns-in-Start

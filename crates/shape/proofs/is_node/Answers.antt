@@ -1,7 +1,7 @@
 -- `shape::is_node` meets its contract: word by word, by the field of each. Assumes nothing.
 use Prim.Native.Nat.{ℕ, ◌+◌}
 use mathlib.Core.{Path.{sym, ap, ◌∙◌}, Bool.{false≢true}}
-use borrow.Author.{Tests.{not-false}, Rules.{rules}}
+use borrow.Author.{Tests.{not-false}}
 use Rattle.molang.specs.Words.{upper_field, lower_field, word_fault, variant_after}
 use Rattle.words.specs.Fields.{variant_of}
 use lib.ListN.{get_or}

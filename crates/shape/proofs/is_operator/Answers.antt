@@ -1,6 +1,5 @@
 -- `shape::is_operator` meets its contract, test by test. Assumes nothing.
 use mathlib.Core.Path.{sym, ◌∙◌}
-use borrow.Author.Rules.{rules}
 use Rattle.shape.proofs.{CaseLaws.{other-kind, high-variant, by_number}}
 use Rattle.shape.proofs.is_operator.Goals as goal
 

@@ -3,7 +3,6 @@ use mathlib.Core.{Path.{◌≡◌, refl}, Bool.{false}}
 use Rattle.molang.specs.WriteEntry.{is_whole}
 use Rattle.shape.proofs.{CaseLaws.{not-operator}}
 use Rattle.shape.specs.Answers.{field_of, shape}
-use borrow.Author.Rules.{rules}
 use Rattle.shape.proofs.is_whole.Goals as goal
 use borrow.Enum.Refused.{opened}
 

@@ -1,6 +1,5 @@
 -- `shape::next` meets its contract: case by case. Assumes nothing.
 use Rattle.molang.specs.WriteEntry.{next_in_node}
-use borrow.Author.Rules.{rules}
 use Rattle.shape.proofs.next.Goals as goal
 
 pub returns-in-Operator : goal.returns-in-Operator

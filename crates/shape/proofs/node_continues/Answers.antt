@@ -2,7 +2,7 @@
 use Prim.Native.Nat.{◌+◌}
 use mathlib.Core.Bool.{false≢true}
 use native.Mathlib.Omega.{arith}
-use borrow.Author.{Tests.{not-false, leb-true}, Rules.{rules}}
+use borrow.Author.{Tests.{not-false, leb-true}}
 use Rattle.molang.specs.{Words.{low_of}, WriteEntry.{most_nodes}}
 use Rattle.shape.proofs.node_continues.Goals as goal
 

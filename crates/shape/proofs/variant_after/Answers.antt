@@ -4,7 +4,6 @@ use Rattle.molang.specs.Words.{variant_after}
 use Rattle.words.specs.Fields.{variant_of}
 use Rattle.shape.specs.Answers.{field_of}
 use Rattle.shape.proofs.{CaseLaws.{not-operator}}
-use borrow.Author.Rules.{rules}
 use Rattle.shape.proofs.variant_after.Goals as goal
 use borrow.Enum.Refused.{opened}
 

@@ -1,11 +1,7 @@
 -- `shape::whole_nodes` meets its contract. The loop's invariant is what it ensures: the fault of the words that are left is the fault
 -- of all. The measure is what is left of the words. Assumes nothing.
-use Prim.Native.Nat.{◌-◌}
 use native.Mathlib.Omega.{arith}
-use borrow.Author.{Rules.{rules}, Tests.{not-false}}
-use lib.ListN.{length}
-use Rattle.molang.specs.Words.{operator_field}
-use Rattle.shape.specs.Seen.{Seen}
+use borrow.Author.{Tests.{not-false}}
 use Rattle.shape.proofs.{ShapeLaws.{seen_start, seen-node}}
 use Rattle.shape.proofs.whole_nodes.Goals as goal
 

@@ -1,11 +1,8 @@
 -- `shape::whole_nodes` meets its contract. The loop's invariant is what it ensures: the fault of the words that are left is the fault
 use Prim.Native.Nat.{◌-◌}
-use native.Mathlib.Omega.{arith}
-use borrow.Author.{Rules.{rules}, Tests.{not-false}}
 use lib.ListN.{length}
 use Rattle.molang.specs.Words.{operator_field}
 use Rattle.shape.specs.Seen.{Seen}
-use Rattle.shape.proofs.{ShapeLaws.{seen_start, seen-node}}
 use Rattle.shape.proofs.whole_nodes.Given as goal
 
 abbrev pub invariant-loop-at : goal.invariant-loop-at

@@ -3,7 +3,6 @@ use mathlib.Core.Path.{◌≡◌}
 use Rattle.molang.specs.StackOrder.{ReorderCall, export_refusal}
 use Rattle.stackorder.specs.{Answers.{call}, Filled.{refusal_in}}
 use Rattle.stackorder.proofs.{EntryLaws.{export-first, can-export, exported}}
-use borrow.Author.Rules.{rules}
 use Rattle.stackorder.proofs.export.Goals as goal
 use Rattle.stackorder.proofs.export.Lts as lts
 use Rattle.stackorder.proofs.export.Tie as tie

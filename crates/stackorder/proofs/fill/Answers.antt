@@ -1,12 +1,8 @@
 -- `stackorder::fill` meets its contract: the refusal, or the walk over words that can be reordered. Assumes nothing.
-use mathlib.Core.{Path.{◌≡◌, ap}, Option.{none}}
+use mathlib.Core.{Path.{ap}}
 use Rattle.stackorder.specs.Filled.{refusal_in}
 use Rattle.stackorder.proofs.{EntryLaws.{turned-back, put-in-order}}
-use borrow.Author.Rules.{rules}
 use Rattle.stackorder.proofs.fill.Goals as goal
-use Rattle.stackorder.proofs.fill.Lts as lts
-use Rattle.stackorder.proofs.fill.Tie as tie
-use Rattle.stackorder.proofs.fill.Reads as reads
 
 pub returns-in-Told : goal.returns-in-Told
 returns-in-Told c =

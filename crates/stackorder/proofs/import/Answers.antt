@@ -3,7 +3,6 @@ use mathlib.Core.Path.{◌≡◌}
 use Rattle.molang.specs.StackOrder.{ReorderCall, import_refusal}
 use Rattle.stackorder.specs.{Answers.{call}, Filled.{refusal_in}}
 use Rattle.stackorder.proofs.{EntryLaws.{import-first, can-import, imported}}
-use borrow.Author.Rules.{rules}
 use Rattle.stackorder.proofs.import.Goals as goal
 use Rattle.stackorder.proofs.import.Lts as lts
 use Rattle.stackorder.proofs.import.Tie as tie

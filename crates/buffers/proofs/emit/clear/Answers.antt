@@ -1,9 +1,9 @@
 -- `buffers::emit::clear` meets its contract.
-use Prim.Native.Nat.{ℕ, ◌-◌, ◌≤◌}
-use mathlib.Core.{Path.{◌≡◌, refl, ap, ◌∙◌}, List.{List, ◌++◌, append-nil}}
+use Prim.Native.Nat.{ℕ}
+use mathlib.Core.{Path.{◌≡◌, refl, ap, ◌∙◌}, List.{List, append-nil}}
 use native.Mathlib.Omega.{arith}
 use borrow.Author.Fill.{fill_none, fill_more}
-use lib.{ListN.{length, drop, set, replicate, length-set}, Seq.{drop-length}}
+use lib.{ListN.{length, set, replicate, length-set}, Seq.{drop-length}}
 use Rattle.buffers.proofs.emit.clear.Goals as goal
 
 pub loop-i-preserved : goal.loop-i-preserved

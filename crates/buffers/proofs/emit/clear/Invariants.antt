@@ -1,9 +1,7 @@
 -- `buffers::emit::clear` meets its contract.
-use Prim.Native.Nat.{ℕ, ◌-◌, ◌≤◌}
-use mathlib.Core.{Path.{◌≡◌, refl, ap, ◌∙◌}, List.{List, ◌++◌, append-nil}}
-use native.Mathlib.Omega.{arith}
-use borrow.Author.Fill.{fill_none, fill_more}
-use lib.{ListN.{length, drop, set, replicate, length-set}, Seq.{drop-length}}
+use Prim.Native.Nat.{◌-◌, ◌≤◌}
+use mathlib.Core.{Path.{◌≡◌}, List.{◌++◌}}
+use lib.{ListN.{length, drop, replicate}}
 use Rattle.buffers.proofs.emit.clear.Given as goal
 
 abbrev pub invariant-loop-i : goal.invariant-loop-i

@@ -1,8 +1,8 @@
 -- `buffers::emit::copy_tree` meets its contract.
-use Prim.Native.Nat.{ℕ, ◌+◌, ◌-◌, ◌≤◌}
-use mathlib.Core.{Path.{◌≡◌, refl, ap, ◌∙◌}, List.{List, ◌++◌}}
+use Prim.Native.Nat.{ℕ, ◌+◌}
+use mathlib.Core.{Path.{refl, ap, ◌∙◌}, List.{List}}
 use native.Mathlib.Omega.{arith}
-use lib.ListN.{length, get_or, take, drop, set, length-set}
+use lib.ListN.{get_or, set, length-set}
 use Rattle.buffers.proofs.{Copying.{copy_step, copy_done}}
 use Rattle.buffers.proofs.emit.copy_tree.Goals as goal
 

@@ -1,9 +1,7 @@
 -- `buffers::emit::copy_tree` meets its contract.
-use Prim.Native.Nat.{ℕ, ◌+◌, ◌-◌, ◌≤◌}
-use mathlib.Core.{Path.{◌≡◌, refl, ap, ◌∙◌}, List.{List, ◌++◌}}
-use native.Mathlib.Omega.{arith}
-use lib.ListN.{length, get_or, take, drop, set, length-set}
-use Rattle.buffers.proofs.{Copying.{copy_step, copy_done}}
+use Prim.Native.Nat.{◌-◌, ◌≤◌}
+use mathlib.Core.{Path.{◌≡◌}, List.{◌++◌}}
+use lib.ListN.{length, take, drop}
 use Rattle.buffers.proofs.emit.copy_tree.Given as goal
 
 abbrev pub invariant-loop-i : goal.invariant-loop-i

@@ -2,8 +2,7 @@
 use mathlib.Core.Path.{◌≡◌}
 use native.Mathlib.Omega.{arith}
 use lib.ListN.{length}
-use Rattle.buffers.specs.Emit.{CanEmit}
-use Rattle.buffers.proofs.Emitting.{EmitAt, Turn, emit-start, emit-in, emit-step, emit-done, emit-spent}
+use Rattle.buffers.proofs.Emitting.{Turn, emit-start, emit-in, emit-step, emit-done, emit-spent}
 use Rattle.buffers.proofs.emit.emit.Goals as goal
 use Rattle.buffers.proofs.emit.emit.Lts as lts
 use Rattle.buffers.proofs.emit.emit.Tie as tie

@@ -1,9 +1,6 @@
 -- `buffers::emit::emit` meets its contract: the loop, by the laws of Emitting. Assumes nothing.
-use mathlib.Core.Path.{◌≡◌}
-use native.Mathlib.Omega.{arith}
-use lib.ListN.{length}
 use Rattle.buffers.specs.Emit.{CanEmit}
-use Rattle.buffers.proofs.Emitting.{EmitAt, Turn, emit-start, emit-in, emit-step, emit-done, emit-spent}
+use Rattle.buffers.proofs.Emitting.{EmitAt}
 use Rattle.buffers.proofs.emit.emit.Given as goal
 
 abbrev pub invariant-loop-fuel : goal.invariant-loop-fuel

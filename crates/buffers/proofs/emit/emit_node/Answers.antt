@@ -1,6 +1,5 @@
 -- `buffers::emit::emit_node` meets its contract. Assumes nothing.
 use Rattle.buffers.proofs.{NodeWords.{node-emitted}}
-use borrow.Author.Rules.{rules}
 use Rattle.buffers.proofs.emit.emit_node.Goals as goal
 
 pub returns : goal.returns

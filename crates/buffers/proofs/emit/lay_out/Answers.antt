@@ -1,6 +1,5 @@
 -- `buffers::emit::lay_out` meets its contract.
 use native.Mathlib.Omega.{arith}
-use borrow.Author.Rules.{rules}
 use Rattle.buffers.proofs.{Copying.{lay-room, lay-count, lay_done}}
 use Rattle.buffers.proofs.emit.lay_out.Goals as goal
 

@@ -1,7 +1,6 @@
 -- `buffers::emit::node_after` meets its contract: a constructor for each way. Assumes nothing.
 use mathlib.Core.Path.{refl}
 use Rattle.buffers.specs.Emit.{over, finish, back, down, waits}
-use borrow.Author.Rules.{rules}
 use Rattle.buffers.proofs.emit.node_after.Goals as goal
 
 pub returns-then-first-eq0 : goal.returns-then-first-eq0

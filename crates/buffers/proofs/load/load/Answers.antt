@@ -1,8 +1,6 @@
 -- `buffers::load::load` meets its contract.
-use Prim.Native.Nat.{◌-◌}
 use native.Mathlib.Omega.{arith}
-use borrow.Author.Rules.{rules}
-use Rattle.buffers.proofs.{Loading.{LoadAt, load-start, load-in, load_step, load-done}}
+use Rattle.buffers.proofs.{Loading.{load-start, load-in, load_step, load-done}}
 use Rattle.buffers.proofs.load.load.Goals as goal
 
 pub load_token-requires : goal.load_token-requires

@@ -1,6 +1,5 @@
 -- `buffers::load::load_token` meets its contract. Assumes nothing.
 use Rattle.buffers.proofs.{Loading.{token-stores}}
-use borrow.Author.Rules.{rules}
 use Rattle.buffers.proofs.load.load_token.Goals as goal
 
 pub returns : goal.returns

@@ -1,9 +1,8 @@
 -- `held::copying::copy_words` meets its contract: the first i words are laid. Assumes nothing.
-use Prim.Native.Nat.{ℕ, ◌+◌, ◌-◌, ◌≤◌}
-use mathlib.Core.{Path.{◌≡◌, refl, ap, ◌∙◌}, List.{List}}
-use native.Mathlib.Omega.{arith}
-use lib.{ListN.{length, take, get_or, length-set}, Seq.{take_all}}
-use Rattle.words.{specs.Records.{laid_at}, proofs.RecordLaws.{none-laid}, proofs.LaidLaws.{laid_next}}
+use Prim.Native.Nat.{◌-◌, ◌≤◌}
+use mathlib.Core.{Path.{◌≡◌}}
+use lib.{ListN.{length, take}}
+use Rattle.words.{specs.Records.{laid_at}}
 use Rattle.held.proofs.copying.copy_words.Given as goal
 
 abbrev pub invariant-loop-i : goal.invariant-loop-i

@@ -5,7 +5,6 @@ use mathlib.Core.Path.{◌≡◌, sym, ap, ◌∙◌}
 use native.Mathlib.Omega.{arith}
 use mir.Facts.{to_z-of_z}
 use lib.{ListN.{length, take}, Seq.{length-take-le}}
-use borrow.Author.Rules.{rules}
 use Rattle.molang.proofs.HandedTree.{front-words}
 use Rattle.held.specs.{Held.{Edit, edited}, Answers.{edit}, Editing.{CanSplice}}
 use Rattle.held.proofs.{EditLaws.{can-splice, not-whole, too_many}}

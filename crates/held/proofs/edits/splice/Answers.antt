@@ -3,7 +3,6 @@ use Prim.Native.Nat.{◌+◌, ◌*◌, ◌-◌, ◌≤◌}
 use mathlib.Core.Path.{◌≡◌, sym}
 use native.Mathlib.Omega.{arith}
 use lib.{ListN.{length, drop, length-drop, length-take}, Seq.{length-take-le}}
-use borrow.Author.Rules.{rules}
 use Rattle.held.specs.{Held.{Edit, edited}, Answers.{edit}}
 use Rattle.held.proofs.{EditLaws.{edited-length, edited-laid}}
 use Rattle.held.proofs.edits.splice.Goals as goal

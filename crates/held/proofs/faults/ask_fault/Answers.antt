@@ -1,5 +1,4 @@
 -- `held::faults::ask_fault` meets its contract. Assumes nothing.
-use borrow.Author.Rules.{rules}
 use Rattle.held.specs.Answers.{state}
 use Rattle.held.proofs.{FaultLaws.{ask-first}}
 use Rattle.held.proofs.faults.ask_fault.Goals as goal

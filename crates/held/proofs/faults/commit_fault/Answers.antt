@@ -1,5 +1,4 @@
 -- `held::faults::commit_fault` meets its contract. Assumes nothing.
-use borrow.Author.Rules.{rules}
 use Rattle.held.specs.{Held.{seen_row}, Answers.{state}}
 use Rattle.held.proofs.{FaultLaws.{commit-first}}
 use Rattle.held.proofs.faults.commit_fault.Goals as goal

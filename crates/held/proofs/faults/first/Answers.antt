@@ -1,6 +1,5 @@
 -- `held::faults::first` meets its contract, case by case. Assumes nothing.
 use mathlib.Core.Path.{sym, ap}
-use borrow.Author.Rules.{rules}
 use Rattle.molang.proofs.FirstFailure.{found, after_none}
 use Rattle.held.specs.Editing.{fault_refusal}
 use Rattle.held.proofs.faults.first.Goals as goal

@@ -3,7 +3,6 @@
 use Prim.Native.Nat.{ℕ, ◌*◌}
 use mathlib.Core.Path.{sym, ap, subst, ◌∙◌}
 use lib.ListN.{take}
-use borrow.Author.Rules.{rules}
 use Rattle.molang.specs.Parse.{in_front}
 use Rattle.parse.specs.Answers.{told_of}
 use Rattle.held.specs.Editing.{CanKeep}

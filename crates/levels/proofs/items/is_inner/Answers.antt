@@ -3,7 +3,6 @@ use Prim.Native.Nat.{ℕ}
 use Rattle.ops.specs.Classes.{shares}
 use Rattle.levels.proofs.{Reading.{inner-leaf, inner-node}}
 use mathlib.Core.Path.{sym, ap, ◌∙◌}
-use borrow.Author.Rules.{rules}
 use Rattle.levels.proofs.items.is_inner.Goals as goal
 
 pub returns-then-is_leaf : goal.returns-then-is_leaf

@@ -2,7 +2,6 @@
 use native.Mathlib.Omega.{arith}
 use Rattle.levels.proofs.{Reading.{next-if-end, next-if-found, next-if-other}}
 use mathlib.Core.Path.{sym, ◌∙◌}
-use borrow.Author.Rules.{rules}
 use Rattle.levels.proofs.items.next_if.Goals as goal
 
 pub operator_of-requires : goal.operator_of-requires

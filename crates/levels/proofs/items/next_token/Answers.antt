@@ -1,11 +1,11 @@
 -- `next_token`: its loop passes over an item, or stops at one (Seeking).
-use Prim.Native.Nat.{ℕ, ◌+◌, ◌^◌, ◌≤◌, ◌<◌, ◌-◌}
+use Prim.Native.Nat.{ℕ, ◌+◌, ◌^◌, ◌≤◌, ◌<◌}
 use mathlib.Core.Path.{refl, sym, ap, ◌∙◌, ◌≡◌}
 use native.Mathlib.Omega.{arith}
 use lib.ListN.{length}
 use Rattle.nodes.specs.Store.{wd, slot_end, classes_at}
 use Rattle.ops.specs.Classes.{shares}
-use Rattle.levels.proofs.Seeking.{Seeking, seek-start, seek-in, seek-turn, sought-leaf, sought-tree, sought-none}
+use Rattle.levels.proofs.Seeking.{seek-start, seek-in, seek-turn, sought-leaf, sought-tree, sought-none}
 use Rattle.levels.proofs.items.next_token.Goals as goal
 use Rattle.levels.proofs.items.next_token.Lts as lts
 use Rattle.levels.proofs.items.next_token.Tie as tie

@@ -1,11 +1,7 @@
 -- `next_token`: its loop passes over an item, or stops at one (Seeking).
-use Prim.Native.Nat.{ℕ, ◌+◌, ◌^◌, ◌≤◌, ◌<◌, ◌-◌}
-use mathlib.Core.Path.{refl, sym, ap, ◌∙◌, ◌≡◌}
-use native.Mathlib.Omega.{arith}
-use lib.ListN.{length}
-use Rattle.nodes.specs.Store.{wd, slot_end, classes_at}
-use Rattle.ops.specs.Classes.{shares}
-use Rattle.levels.proofs.Seeking.{Seeking, seek-start, seek-in, seek-turn, sought-leaf, sought-tree, sought-none}
+use Prim.Native.Nat.{◌-◌}
+use mathlib.Core.Path.{◌≡◌}
+use Rattle.levels.proofs.Seeking.{Seeking}
 use Rattle.levels.proofs.items.next_token.Given as goal
 
 abbrev pub invariant-loop-read : goal.invariant-loop-read

@@ -1,6 +1,5 @@
 -- `nodes::children::attach` meets its contract.
 use Rattle.nodes.proofs.{Stores.{attach-words}}
-use borrow.Author.Rules.{rules}
 use Rattle.nodes.proofs.children.attach.Goals as goal
 
 pub returns : goal.returns

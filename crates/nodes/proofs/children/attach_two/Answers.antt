@@ -1,6 +1,5 @@
 -- `nodes::children::attach_two` meets its contract.
 use Rattle.nodes.proofs.{Stores.{attach-two-words}}
-use borrow.Author.Rules.{rules}
 use Rattle.nodes.proofs.children.attach_two.Goals as goal
 
 pub returns : goal.returns

@@ -1,6 +1,6 @@
 -- `nodes::children::count_chain` meets its contract: a step of the count for the first slot, one for the second, then one at each turn of
 -- the loop.
-use Prim.Native.Nat.{◌-◌, ◌^◌, ◌≤◌, ◌<◌}
+use Prim.Native.Nat.{◌≤◌, ◌<◌}
 use native.Mathlib.Omega.{arith}
 use lib.ListN.{length}
 use Rattle.nodes.specs.Store.{slot_end}

@@ -1,9 +1,7 @@
 -- `nodes::children::count_chain` meets its contract: a step of the count for the first slot, one for the second, then one at each turn of
-use Prim.Native.Nat.{◌-◌, ◌^◌, ◌≤◌, ◌<◌}
-use native.Mathlib.Omega.{arith}
+use Prim.Native.Nat.{◌-◌, ◌^◌, ◌<◌}
 use lib.ListN.{length}
-use Rattle.nodes.specs.Store.{slot_end}
-use Rattle.nodes.proofs.Taking.{Counting, count-start, count-in, count-step, count-done}
+use Rattle.nodes.proofs.Taking.{Counting}
 use Rattle.nodes.proofs.children.count_chain.Given as goal
 
 abbrev pub invariant-loop-s : goal.invariant-loop-s

@@ -5,7 +5,7 @@ use native.Mathlib.Omega.{arith}
 use lib.ListN.{length}
 use Rattle.ops.specs.Classes.{bit_at}
 use Rattle.nodes.specs.Store.{wd, slot_end}
-use Rattle.nodes.proofs.{Giving.{Giving, give-start, give-in, give-step, give-done}}
+use Rattle.nodes.proofs.{Giving.{give-start, give-in, give-step, give-done}}
 use Rattle.nodes.proofs.children.give_children.Goals as goal
 use Rattle.nodes.proofs.children.give_children.Lts as lts
 use Rattle.nodes.proofs.children.give_children.Tie as tie

@@ -1,9 +1,9 @@
 -- `nodes::children::last_of_chain` meets its contract.
-use Prim.Native.Nat.{◌-◌, ◌≤◌, ◌<◌}
+use Prim.Native.Nat.{◌≤◌, ◌<◌}
 use native.Mathlib.Omega.{arith}
 use lib.ListN.{length}
 use Rattle.nodes.specs.Store.{slot_end}
-use Rattle.nodes.proofs.Taking.{Lasting, last-start, last-first, last-in, last_step, last_done}
+use Rattle.nodes.proofs.Taking.{last-start, last-first, last-in, last_step, last_done}
 use Rattle.nodes.proofs.children.last_of_chain.Goals as goal
 use Rattle.nodes.proofs.children.last_of_chain.Lts as lts
 use Rattle.nodes.proofs.children.last_of_chain.Tie as tie

@@ -1,9 +1,7 @@
 -- `nodes::children::last_of_chain` meets its contract.
-use Prim.Native.Nat.{◌-◌, ◌≤◌, ◌<◌}
-use native.Mathlib.Omega.{arith}
+use Prim.Native.Nat.{◌-◌}
 use lib.ListN.{length}
-use Rattle.nodes.specs.Store.{slot_end}
-use Rattle.nodes.proofs.Taking.{Lasting, last-start, last-first, last-in, last_step, last_done}
+use Rattle.nodes.proofs.Taking.{Lasting}
 use Rattle.nodes.proofs.children.last_of_chain.Given as goal
 
 abbrev pub invariant-loop-s : goal.invariant-loop-s

@@ -1,6 +1,6 @@
 -- `nodes::children::take_chain` meets its contract: a turn of the loop is a step for each of two slots, or for the last one. Assumes
 -- nothing.
-use Prim.Native.Nat.{◌+◌, ◌-◌, ◌≤◌, ◌<◌}
+use Prim.Native.Nat.{◌+◌, ◌≤◌, ◌<◌}
 use native.Mathlib.Omega.{arith}
 use lib.ListN.{length, set, length-set}
 use Rattle.nodes.specs.Store.{slot_end}

@@ -1,9 +1,7 @@
 -- `nodes::children::take_chain` meets its contract: a turn of the loop is a step for each of two slots, or for the last one. Assumes
-use Prim.Native.Nat.{◌+◌, ◌-◌, ◌≤◌, ◌<◌}
-use native.Mathlib.Omega.{arith}
-use lib.ListN.{length, set, length-set}
-use Rattle.nodes.specs.Store.{slot_end}
-use Rattle.nodes.proofs.{Taking.{Taking, take-start, take_in, take_step, take_done}}
+use Prim.Native.Nat.{◌-◌}
+use lib.ListN.{length}
+use Rattle.nodes.proofs.{Taking.{Taking}}
 use Rattle.nodes.proofs.children.take_chain.Given as goal
 
 abbrev pub invariant-loop-s : goal.invariant-loop-s

@@ -1,5 +1,4 @@
 -- `nodes::slots::make` meets its contract. Assumes nothing.
-use borrow.Author.Rules.{rules}
 use Rattle.nodes.proofs.slots.make.Goals as goal
 
 pub returns : goal.returns

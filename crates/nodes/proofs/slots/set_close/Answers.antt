@@ -1,5 +1,4 @@
 -- `nodes::slots::set_close` meets its contract.
-use borrow.Author.Rules.{rules}
 use Rattle.nodes.proofs.slots.set_close.Goals as goal
 
 pub returns : goal.returns

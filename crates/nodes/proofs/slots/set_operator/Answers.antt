@@ -1,5 +1,4 @@
 -- `nodes::slots::set_operator` meets its contract.
-use borrow.Author.Rules.{rules}
 use Rattle.nodes.proofs.slots.set_operator.Goals as goal
 
 pub returns : goal.returns

@@ -1,6 +1,5 @@
 -- `array_index`: an empty index, or one that is entered, by what `lend_name` lends it.
 use mathlib.Core.Path.{refl, sym, ◌∙◌}
-use borrow.Author.Rules.{rules}
 use Rattle.passes.specs.Arrays.{empty}
 use Rattle.passes.proofs.{ArrayGrowing.{index-opens}}
 use Rattle.passes.proofs.arrays.array_index.Goals as goal

@@ -1,5 +1,4 @@
 -- `array_name`: the name stays as it is, or is an array with its first index (ArrayTurns).
-use borrow.Author.Rules.{rules}
 use Rattle.passes.proofs.{GatherLaws.{token-room}, CallLaws.{can-next}, ArrayTurns.{name-kept, name-can-index, name-indexed}}
 use Rattle.passes.proofs.arrays.array_name.Goals as goal
 

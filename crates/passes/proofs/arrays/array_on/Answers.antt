@@ -1,6 +1,5 @@
 -- `array_on`: the array takes its next index, or is closed (ArrayTurns).
 use native.Mathlib.Omega.{arith}
-use borrow.Author.Rules.{rules}
 use Rattle.passes.proofs.ArrayTurns.{array-peek, array-can-index, array-indexed, array-can-round, array-room, array-closed}
 use Rattle.passes.proofs.arrays.array_on.Goals as goal
 

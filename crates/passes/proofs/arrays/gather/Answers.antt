@@ -1,7 +1,6 @@
 -- `gather`: its loop turns the chain of the index's children onto the array's (ArrayChain).
 use native.Mathlib.Omega.{arith}
-use lib.ListN.{length}
-use Rattle.passes.proofs.ArrayChain.{Gathering, gather-start, gather-in, gather-step, gather-done, to_turn, gather-falls}
+use Rattle.passes.proofs.ArrayChain.{gather-start, gather-in, gather-step, gather-done, gather-falls}
 use Rattle.passes.proofs.arrays.gather.Goals as goal
 
 pub first_of-s-requires : goal.first_of-s-requires

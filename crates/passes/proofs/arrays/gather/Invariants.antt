@@ -1,7 +1,6 @@
 -- `gather`: its loop turns the chain of the index's children onto the array's (ArrayChain).
-use native.Mathlib.Omega.{arith}
 use lib.ListN.{length}
-use Rattle.passes.proofs.ArrayChain.{Gathering, gather-start, gather-in, gather-step, gather-done, to_turn, gather-falls}
+use Rattle.passes.proofs.ArrayChain.{Gathering, to_turn}
 use Rattle.passes.proofs.arrays.gather.Given as goal
 
 abbrev pub invariant-loop-s : goal.invariant-loop-s

@@ -1,5 +1,5 @@
 -- `lend_name`: the array's last child, its name and the index's contents are looked at (ArrayGrowing).
-use borrow.Author.{Rules.{rules}, Tests.{not-true, not-false}}
+use borrow.Author.{Tests.{not-true, not-false}}
 use Rattle.passes.proofs.ArrayGrowing.{lent-no-child, lent-no-name, lent-no-index, lent-name}
 use Rattle.passes.proofs.arrays.lend_name.Goals as goal
 

@@ -1,5 +1,4 @@
 -- `resume_array`: the list or the array takes the item back (ArrayTurns).
-use borrow.Author.Rules.{rules}
 use Rattle.passes.proofs.ArrayTurns.{resume-room, resume-gathers, resumed-kept, resumed-gathered}
 use Rattle.passes.proofs.arrays.resume_array.Goals as goal
 

@@ -3,7 +3,7 @@ use native.Mathlib.Omega.{arith}
 use Prim.Native.Nat.{ℕ}
 use mathlib.Core.{Path.{ap, ◌∙◌}, Bool.{◌||◌}}
 use Rattle.ops.specs.Classes.{bit_at}
-use Rattle.passes.proofs.ArrayChain.{Rounding, round-start, round-in, round-less, round-step, round-done}
+use Rattle.passes.proofs.ArrayChain.{round-start, round-in, round-less, round-step, round-done}
 use Rattle.passes.proofs.arrays.turn_round.Goals as goal
 
 pub next_of-next-requires : goal.next_of-next-requires

@@ -1,9 +1,5 @@
 -- `turn_round`: its loop turns the array's chain round (ArrayChain).
-use native.Mathlib.Omega.{arith}
-use Prim.Native.Nat.{ℕ}
-use mathlib.Core.{Path.{ap, ◌∙◌}, Bool.{◌||◌}}
-use Rattle.ops.specs.Classes.{bit_at}
-use Rattle.passes.proofs.ArrayChain.{Rounding, round-start, round-in, round-less, round-step, round-done}
+use Rattle.passes.proofs.ArrayChain.{Rounding}
 use Rattle.passes.proofs.arrays.turn_round.Given as goal
 
 abbrev pub invariant-loop-s : goal.invariant-loop-s

@@ -1,9 +1,5 @@
 -- `first_leaf`: its loop goes down or on, and has turns enough (BinarySearch).
-use native.Mathlib.Omega.{arith}
-use mathlib.Core.Path.{refl}
-use borrow.Author.Rules.{rules}
-use Rattle.passes.proofs.CallLaws.{shares_as}
-use Rattle.passes.proofs.BinarySearch.{Searching, search-start, search-in, search-down, search-next, search-done, search-left}
+use Rattle.passes.proofs.BinarySearch.{Searching}
 use Rattle.passes.proofs.binary.first_leaf.Given as goal
 
 abbrev pub invariant-loop-fuel : goal.invariant-loop-fuel

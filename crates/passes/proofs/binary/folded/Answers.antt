@@ -1,6 +1,5 @@
 -- `folded`: the right side's children come first, or it is taken as it is (BinaryLaws).
 use mathlib.Core.Path.{refl, sym, ◌∙◌}
-use borrow.Author.Rules.{rules}
 use Rattle.passes.proofs.BinaryLaws.{operate-room, operate-folds, operated-opens, operated-folds}
 use Rattle.passes.proofs.binary.folded.Goals as goal
 

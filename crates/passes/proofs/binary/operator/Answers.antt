@@ -1,7 +1,6 @@
 -- `operator`: a side is missing, the left one holds an unfolded operator, or it takes both (BinaryLaws).
 use native.Mathlib.Omega.{arith}
 use mathlib.Core.Path.{refl}
-use borrow.Author.Rules.{rules}
 use Rattle.passes.proofs.{GatherLaws.{next-room}, CallLaws.{shares_as}}
 use Rattle.passes.proofs.BinaryLaws.{left-room, can-search, operator-begins, operator-ends, operator-fails, operated}
 use Rattle.passes.proofs.binary.operator.Goals as goal

@@ -1,5 +1,4 @@
 -- `resume`: no operator waits, or one takes its right side (BinaryLaws).
-use borrow.Author.Rules.{rules}
 use Rattle.passes.proofs.{BinaryLaws.{resume-room, resume-folds, resumed-kept, resumed-folded}}
 use Rattle.passes.proofs.binary.resume.Goals as goal
 

@@ -1,6 +1,5 @@
 -- `call`: no section after the call, an empty one, or one that it takes (CallLaws).
 use mathlib.Core.Path.{sym, ◌∙◌}
-use borrow.Author.Rules.{rules}
 use Rattle.molang.specs.Operator.{left_parenthesis}
 use Rattle.passes.proofs.CallLaws.{can-attach, can-next, can-call, query-on, query-failed, query-calls}
 use Rattle.passes.proofs.calls.call.Goals as goal

@@ -1,6 +1,5 @@
 -- `called`: the call is entered, or done (CallLaws).
 use native.Mathlib.Omega.{arith}
-use borrow.Author.Rules.{rules}
 use Rattle.passes.proofs.{GatherLaws.{token-room}, CallLaws.{can-attach, shares_as, called-opens, called-stays}}
 use Rattle.passes.proofs.calls.called.Goals as goal
 

@@ -1,5 +1,4 @@
 -- `math_call`: a section that it takes, the list's end, or another item (CallLaws).
-use borrow.Author.Rules.{rules}
 use Rattle.molang.specs.Operator.{left_parenthesis}
 use Rattle.passes.proofs.{CallLaws.{can-next, can-call, math-calls, math-ended, math-failed}}
 use Rattle.passes.proofs.calls.math_call.Goals as goal

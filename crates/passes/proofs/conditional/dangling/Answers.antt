@@ -1,11 +1,10 @@
 -- `passes::conditional::dangling` meets its contract.
 use mathlib.Core.Path.{sym, ◌∙◌}
-use Prim.Native.Nat.{◌+◌, ◌-◌, ◌^◌, ◌≤◌, ◌<◌}
+use Prim.Native.Nat.{◌+◌, ◌^◌, ◌≤◌, ◌<◌}
 use native.Mathlib.Omega.{arith}
 use lib.ListN.{length}
 use Rattle.nodes.specs.Store.{wd, slot_end}
-use Rattle.passes.specs.Conditional.{CanDangle}
-use Rattle.passes.proofs.ConditionalDangling.{Dangling, dangle-start, dangle-in, dangle-next, dangles-if, dangles-else, dangles-none}
+use Rattle.passes.proofs.ConditionalDangling.{dangle-start, dangle-in, dangle-next, dangles-if, dangles-else, dangles-none}
 use Rattle.passes.proofs.conditional.dangling.Goals as goal
 use Rattle.passes.proofs.conditional.dangling.Lts as lts
 use Rattle.passes.proofs.conditional.dangling.Tie as tie

@@ -1,11 +1,7 @@
 -- `passes::conditional::dangling` meets its contract.
-use mathlib.Core.Path.{sym, ◌∙◌}
-use Prim.Native.Nat.{◌+◌, ◌-◌, ◌^◌, ◌≤◌, ◌<◌}
-use native.Mathlib.Omega.{arith}
-use lib.ListN.{length}
-use Rattle.nodes.specs.Store.{wd, slot_end}
+use Prim.Native.Nat.{◌-◌}
 use Rattle.passes.specs.Conditional.{CanDangle}
-use Rattle.passes.proofs.ConditionalDangling.{Dangling, dangle-start, dangle-in, dangle-next, dangles-if, dangles-else, dangles-none}
+use Rattle.passes.proofs.ConditionalDangling.{Dangling}
 use Rattle.passes.proofs.conditional.dangling.Given as goal
 
 abbrev pub invariant-loop-i : goal.invariant-loop-i

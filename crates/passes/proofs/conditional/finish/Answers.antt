@@ -1,6 +1,5 @@
 -- `passes::conditional::finish` meets its contract.
 use native.Mathlib.Omega.{arith}
-use borrow.Author.Rules.{rules}
 use Rattle.passes.proofs.ConditionalEnd.{can-fold, can-dangle, ends-idle, ends-folded, ends-dangling}
 use Rattle.passes.proofs.conditional.finish.Goals as goal
 

@@ -3,8 +3,7 @@ use Prim.Native.Nat.{◌+◌, ◌^◌, ◌≤◌, ◌<◌}
 use mathlib.Core.Path.{◌≡◌, refl}
 use native.Mathlib.Omega.{arith}
 use lib.ListN.{length}
-use Rattle.passes.specs.Conditional.{CanFold}
-use Rattle.passes.proofs.ConditionalLoop.{Scanning, scan-start, scan-in, next-can, scan-next, folded-few, folded-none, folded-one}
+use Rattle.passes.proofs.ConditionalLoop.{scan-start, scan-in, next-can, scan-next, folded-few, folded-none, folded-one}
 use Rattle.passes.proofs.conditional.fold_conditionals.Goals as goal
 use Rattle.passes.proofs.conditional.fold_conditionals.Lts as lts
 use Rattle.passes.proofs.conditional.fold_conditionals.Tie as tie

@@ -1,10 +1,6 @@
 -- `passes::conditional::fold_conditionals` meets its contract.
-use Prim.Native.Nat.{◌+◌, ◌^◌, ◌≤◌, ◌<◌}
-use mathlib.Core.Path.{◌≡◌, refl}
-use native.Mathlib.Omega.{arith}
-use lib.ListN.{length}
 use Rattle.passes.specs.Conditional.{CanFold}
-use Rattle.passes.proofs.ConditionalLoop.{Scanning, scan-start, scan-in, next-can, scan-next, folded-few, folded-none, folded-one}
+use Rattle.passes.proofs.ConditionalLoop.{Scanning}
 use Rattle.passes.proofs.conditional.fold_conditionals.Given as goal
 
 abbrev pub invariant-loop-left : goal.invariant-loop-left

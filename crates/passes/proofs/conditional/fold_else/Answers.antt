@@ -3,7 +3,6 @@ use Prim.Native.Nat.{◌+◌, ◌-◌, ◌<◌}
 use mathlib.Core.Path.{refl, sym, ◌∙◌}
 use native.Mathlib.Omega.{arith}
 use Rattle.passes.specs.Conditional.{start, short, no_if, no_else, pair}
-use borrow.Author.Rules.{rules}
 use Rattle.passes.proofs.conditional.fold_else.Goals as goal
 
 pub is_token-requires : goal.is_token-requires

@@ -3,7 +3,6 @@ use Rattle.passes.proofs.{ConditionalPair.{else-can, next-if}, ConditionalScan.{
 use Prim.Native.Nat.{◌-◌}
 use mathlib.Core.Path.{refl, sym, ◌∙◌}
 use native.Mathlib.Omega.{arith}
-use borrow.Author.Rules.{rules}
 use Rattle.passes.proofs.conditional.fold_next.Goals as goal
 
 pub fold_last-requires : goal.fold_last-requires

@@ -3,7 +3,6 @@ use Prim.Native.Nat.{◌-◌, ◌≤◌}
 use mathlib.Core.Path.{sym, ◌∙◌}
 use native.Mathlib.Omega.{arith}
 use Rattle.passes.specs.Conditional.{few, other, looked}
-use borrow.Author.Rules.{rules}
 use Rattle.passes.proofs.conditional.is_else.Goals as goal
 
 pub is_token-requires : goal.is_token-requires

@@ -1,12 +1,6 @@
 -- `passes::conditional::step` meets its contract.
-use mathlib.Core.Path.{refl, sym, ◌∙◌}
-use Prim.Native.Nat.{◌+◌, ◌-◌, ◌^◌, ◌≤◌, ◌<◌}
-use native.Mathlib.Omega.{arith}
-use lib.ListN.{length}
-use borrow.Author.Tests.{not-true, not-false}
-use Rattle.nodes.specs.Store.{wd, slot_end}
-use Rattle.passes.proofs.ConditionalLaws.{CanGather, can-gather, Gathering, gather-start, gather-in, gather-passes, gather-counts}
-use Rattle.passes.proofs.{ConditionalLaws.{conditional-test, step-enter, step-over}}
+use Prim.Native.Nat.{◌-◌}
+use Rattle.passes.proofs.ConditionalLaws.{CanGather, Gathering}
 use Rattle.passes.proofs.conditional.step.Given as goal
 
 abbrev pub invariant-loop-read : goal.invariant-loop-read

@@ -1,7 +1,6 @@
 -- `returned`: at the end of the list, and with a tree after it (ReturnLaws).
 use native.Mathlib.Omega.{arith}
 use mathlib.Core.Path.{refl}
-use borrow.Author.Rules.{rules}
 use Rattle.passes.proofs.{GatherLaws.{token-room, next-room}, ReturnLaws.{returned-end, returned-turn}}
 use Rattle.passes.proofs.returns.returned.Goals as goal
 

@@ -1,7 +1,6 @@
 -- `begin_list`: the list's node is there already, or is made.
 use native.Mathlib.Omega.{arith}
 use Rattle.passes.specs.Statements.{there, begun}
-use borrow.Author.Rules.{rules}
 use Rattle.passes.proofs.statements.begin_list.Goals as goal
 
 pub returns : goal.returns

@@ -2,7 +2,6 @@
 use Prim.Native.Nat.{◌<◌}
 use native.Mathlib.Omega.{arith}
 use Rattle.passes.specs.Statements.{complete, closing}
-use borrow.Author.Rules.{rules}
 use Rattle.passes.proofs.statements.end_open.Goals as goal
 
 pub end_statement-requires : goal.end_statement-requires

@@ -3,7 +3,6 @@ use mathlib.Core.Path.{refl, ◌∙◌}
 use native.Mathlib.Omega.{arith}
 use Rattle.nodes.proofs.Runs.{set_long}
 use Rattle.passes.proofs.{StatementLaws.{give-first, give-made}}
-use borrow.Author.Rules.{rules}
 use Rattle.passes.proofs.statements.end_statement.Goals as goal
 
 pub make-requires : goal.make-requires

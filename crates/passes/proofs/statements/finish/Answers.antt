@@ -5,7 +5,6 @@ use native.Mathlib.Omega.{arith}
 use lib.ListN.{set}
 use Rattle.nodes.proofs.Runs.{set_long}
 use Rattle.passes.proofs.{StatementFinish.{finish-closes, finish-asks, split-ends}}
-use borrow.Author.Rules.{rules}
 use Rattle.passes.proofs.statements.finish.Goals as goal
 
 pub bounds-work-base : goal.bounds-work-base

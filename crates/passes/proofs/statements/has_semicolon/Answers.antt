@@ -1,10 +1,7 @@
 -- `has_semicolon`: no item before i is a semicolon, whatever forest the list is (StatementLaws).
-use Prim.Native.Nat.{◌-◌}
-use mathlib.Core.Path.{◌≡◌, refl, sym, ◌∙◌}
+use mathlib.Core.Path.{refl, sym, ◌∙◌}
 use native.Mathlib.Omega.{arith}
-use borrow.Author.Rules.{rules}
-use Rattle.nodes.specs.declared.frames.List.{List as Items}
-use Rattle.passes.proofs.StatementLaws.{Looking, look-start, look-slot, look-found, look-next, look-done}
+use Rattle.passes.proofs.StatementLaws.{look-start, look-slot, look-found, look-next, look-done}
 use Rattle.passes.proofs.statements.has_semicolon.Goals as goal
 
 pub is_token-requires : goal.is_token-requires

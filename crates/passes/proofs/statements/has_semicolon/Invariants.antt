@@ -1,10 +1,8 @@
 -- `has_semicolon`: no item before i is a semicolon, whatever forest the list is (StatementLaws).
 use Prim.Native.Nat.{◌-◌}
-use mathlib.Core.Path.{◌≡◌, refl, sym, ◌∙◌}
-use native.Mathlib.Omega.{arith}
-use borrow.Author.Rules.{rules}
+use mathlib.Core.Path.{◌≡◌}
 use Rattle.nodes.specs.declared.frames.List.{List as Items}
-use Rattle.passes.proofs.StatementLaws.{Looking, look-start, look-slot, look-found, look-next, look-done}
+use Rattle.passes.proofs.StatementLaws.{Looking}
 use Rattle.passes.proofs.statements.has_semicolon.Given as goal
 
 abbrev pub invariant-loop-i : goal.invariant-loop-i

@@ -2,7 +2,6 @@
 use mathlib.Core.Path.{sym, ap, ◌∙◌}
 use Rattle.molang.specs.Statements.{is_entered}
 use Rattle.passes.specs.Statements.{entered, kept}
-use borrow.Author.Rules.{rules}
 use Rattle.passes.proofs.statements.inner.Goals as goal
 
 pub returns-then-holds_statements : goal.returns-then-holds_statements

@@ -2,7 +2,6 @@
 use mathlib.Core.Path.{◌∙◌}
 use Rattle.passes.specs.Statements.{leading, again}
 use Rattle.passes.proofs.{StatementSemicolon.{can-end-give, semicolon-ended}}
-use borrow.Author.Rules.{rules}
 use Rattle.passes.proofs.statements.semicolon.Goals as goal
 
 pub returns-then-list-from : goal.returns-then-list-from

@@ -1,6 +1,5 @@
 -- `start`: the list is split where it has a semicolon (StatementLaws).
 use Rattle.passes.proofs.{StatementLaws.{started-split, started-unsplit}}
-use borrow.Author.Rules.{rules}
 use Rattle.passes.proofs.statements.start.Goals as goal
 
 pub returns-then-has_semicolon : goal.returns-then-has_semicolon

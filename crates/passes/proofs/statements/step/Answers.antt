@@ -1,7 +1,6 @@
 -- `step`: what `next_token` stops at is the end, a node (StatementSplit) or a semicolon (StatementSemicolon).
 use Rattle.passes.proofs.StatementSemicolon.{can-end, turned-split-semicolon}
 use Rattle.passes.proofs.StatementSplit.{split-view, split-seek, turned-split-over, turned-split-inner, split-room}
-use borrow.Author.Rules.{rules}
 use Rattle.passes.proofs.statements.step.Goals as goal
 
 pub inner-requires : goal.inner-requires

@@ -1,7 +1,6 @@
 -- `passes::unary::minus` meets its contract.
 use Rattle.passes.proofs.UnaryPrefix.{can-prefix, minus-subtract, read_some, what-before, previous-slot, taken-first, taken-operator}
 use Rattle.passes.proofs.{UnaryPrefix.{taken-operand, taken-minus, taken-unknown}}
-use borrow.Author.Rules.{rules}
 use Rattle.passes.proofs.unary.minus.Goals as goal
 
 pub prefix-requires : goal.prefix-requires

@@ -1,11 +1,10 @@
 -- `passes::unary::previous_token` meets its contract.
-use mathlib.Core.Path.{◌≡◌, refl, sym, ◌∙◌}
+use mathlib.Core.Path.{refl, sym, ◌∙◌}
 use Prim.Native.Nat.{◌+◌, ◌-◌, ◌^◌, ◌≤◌, ◌<◌}
 use native.Mathlib.Omega.{arith}
 use lib.ListN.{length}
 use Rattle.nodes.specs.Store.{wd, slot_end}
-use Rattle.passes.specs.Unary.{CanSeekBack}
-use Rattle.passes.proofs.UnaryRight.{SeekingBack, unary-test, seek-back-start, seek-back-in, seek-back-turn, sought-back-leaf}
+use Rattle.passes.proofs.UnaryRight.{unary-test, seek-back-start, seek-back-in, seek-back-turn, sought-back-leaf}
 use Rattle.passes.proofs.{UnaryRight.{sought-back-tree, sought-back-none}}
 use Rattle.passes.proofs.unary.previous_token.Goals as goal
 use Rattle.passes.proofs.unary.previous_token.Lts as lts

@@ -1,12 +1,7 @@
 -- `passes::unary::previous_token` meets its contract.
-use mathlib.Core.Path.{◌≡◌, refl, sym, ◌∙◌}
-use Prim.Native.Nat.{◌+◌, ◌-◌, ◌^◌, ◌≤◌, ◌<◌}
-use native.Mathlib.Omega.{arith}
-use lib.ListN.{length}
-use Rattle.nodes.specs.Store.{wd, slot_end}
+use mathlib.Core.Path.{◌≡◌}
 use Rattle.passes.specs.Unary.{CanSeekBack}
-use Rattle.passes.proofs.UnaryRight.{SeekingBack, unary-test, seek-back-start, seek-back-in, seek-back-turn, sought-back-leaf}
-use Rattle.passes.proofs.{UnaryRight.{sought-back-tree, sought-back-none}}
+use Rattle.passes.proofs.UnaryRight.{SeekingBack}
 use Rattle.passes.proofs.unary.previous_token.Given as goal
 
 abbrev pub invariant-loop-read : goal.invariant-loop-read

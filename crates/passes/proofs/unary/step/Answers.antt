@@ -1,6 +1,5 @@
 -- `passes::unary::step` meets its contract.
 use Rattle.passes.proofs.{UnaryRight.{seek-back}, UnaryStep.{token-found, step-over, step-enter, step-token}}
-use borrow.Author.Rules.{rules}
 use Rattle.passes.proofs.unary.step.Goals as goal
 
 pub token-requires : goal.token-requires

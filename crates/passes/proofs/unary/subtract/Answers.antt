@@ -1,6 +1,5 @@
 -- `passes::unary::subtract` meets its contract.
 use Rattle.passes.proofs.{UnaryPrefix.{prefix-made, subtracted}}
-use borrow.Author.Rules.{rules}
 use Rattle.passes.proofs.unary.subtract.Goals as goal
 
 pub prefix-requires : goal.prefix-requires

@@ -1,7 +1,6 @@
 -- `passes::unary::to_add` meets its contract.
 use mathlib.Core.Path.{sym, ◌∙◌}
 use Rattle.passes.proofs.{UnaryPrefix.{added-leaf-words, added-inner-words}}
-use borrow.Author.Rules.{rules}
 use Rattle.passes.proofs.unary.to_add.Goals as goal
 
 pub returns-then-is_leaf : goal.returns-then-is_leaf

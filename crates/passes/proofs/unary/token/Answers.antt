@@ -1,7 +1,6 @@
 -- `passes::unary::token` meets its contract.
 use mathlib.Core.Path.{sym, ◌∙◌}
 use Rattle.passes.proofs.UnaryPrefix.{token-within, can-prefix, operand-some, taken-negate-alone, taken-not-alone, taken_not}
-use borrow.Author.Rules.{rules}
 use Rattle.passes.proofs.unary.token.Goals as goal
 
 pub returns-then-list : goal.returns-then-list

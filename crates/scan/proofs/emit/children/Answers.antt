@@ -1,6 +1,5 @@
 -- `scan::emit::children` meets its contract: a section, or any other node. Assumes nothing.
 use mathlib.Core.Path.{refl, sym, ◌∙◌}
-use borrow.Author.Rules.{rules}
 use Rattle.scan.specs.Records.{children_of}
 use Rattle.scan.proofs.emit.children.Goals as goal
 

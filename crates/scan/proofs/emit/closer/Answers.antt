@@ -1,6 +1,5 @@
 -- `scan::emit::closer` meets its contract: a section, or any other node. Assumes nothing.
-use mathlib.Core.Path.{refl, sym, ◌∙◌}
-use borrow.Author.Rules.{rules}
+use mathlib.Core.Path.{sym, ◌∙◌}
 use Rattle.scan.specs.Records.{closer_place}
 use Rattle.scan.proofs.emit.closer.Goals as goal
 

@@ -1,11 +1,10 @@
 -- `scan::emit::emit` meets its contract: a record a turn. Assumes nothing.
-use Prim.Native.Nat.{ℕ, ◌-◌, ◌*◌, ◌≤◌}
-use mathlib.Core.{List.{List}, Path.{◌≡◌, refl, ap, sym, ◌∙◌}}
+use Prim.Native.Nat.{ℕ}
+use mathlib.Core.{List.{List}, Path.{refl, ap, ◌∙◌}}
 use native.Mathlib.Omega.{arith}
 use lib.ListN.{length}
-use borrow.Author.Rules.{rules}
 use Rattle.words.specs.Records.{laid_at}
-use Rattle.scan.proofs.{EmitLaws.{emitted, none_emitted, one-emitted, all-emitted, record-kept}}
+use Rattle.scan.proofs.{EmitLaws.{none_emitted, one-emitted, all-emitted, record-kept}}
 use Rattle.scan.proofs.emit.emit.Goals as goal
 
 pub loop-r-init : goal.loop-r-init

@@ -1,11 +1,8 @@
 -- `scan::emit::emit` meets its contract: a record a turn. Assumes nothing.
-use Prim.Native.Nat.{ℕ, ◌-◌, ◌*◌, ◌≤◌}
-use mathlib.Core.{List.{List}, Path.{◌≡◌, refl, ap, sym, ◌∙◌}}
-use native.Mathlib.Omega.{arith}
+use Prim.Native.Nat.{◌-◌, ◌*◌, ◌≤◌}
+use mathlib.Core.{Path.{◌≡◌}}
 use lib.ListN.{length}
-use borrow.Author.Rules.{rules}
-use Rattle.words.specs.Records.{laid_at}
-use Rattle.scan.proofs.{EmitLaws.{emitted, none_emitted, one-emitted, all-emitted, record-kept}}
+use Rattle.scan.proofs.{EmitLaws.{emitted}}
 use Rattle.scan.proofs.emit.emit.Given as goal
 
 abbrev pub invariant-loop-r : goal.invariant-loop-r

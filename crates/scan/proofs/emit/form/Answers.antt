@@ -1,6 +1,5 @@
 -- `scan::emit::form` meets its contract: a section, or any other node. Assumes nothing.
 use mathlib.Core.Path.{refl, sym, ◌∙◌}
-use borrow.Author.Rules.{rules}
 use Rattle.scan.specs.Records.{form_of}
 use Rattle.scan.proofs.emit.form.Goals as goal
 

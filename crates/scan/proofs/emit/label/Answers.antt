@@ -1,7 +1,6 @@
 -- `scan::emit::label` meets its contract: form by form. Assumes nothing.
 use mathlib.Core.Path.{refl, sym, ◌∙◌}
 use native.Mathlib.Omega.{arith}
-use borrow.Author.Rules.{rules}
 use Rattle.scan.specs.Emit.{label_words}
 use Rattle.scan.proofs.{EmitLaws.{label-other}}
 use Rattle.scan.proofs.emit.label.Goals as goal

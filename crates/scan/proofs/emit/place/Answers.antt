@@ -1,5 +1,4 @@
 -- `scan::emit::place` meets its contract. Assumes nothing.
-use borrow.Author.Rules.{rules}
 use Rattle.scan.specs.Records.{token_place}
 use Rattle.scan.proofs.emit.place.Goals as goal
 

@@ -1,7 +1,5 @@
 -- `scan::emit::put` meets its contract: field by field. Assumes nothing.
-use mathlib.Core.Path.{◌∙◌}
 use native.Mathlib.Omega.{arith}
-use borrow.Author.Rules.{rules}
 use Rattle.scan.specs.Emit.{words_of_record}
 use Rattle.scan.proofs.emit.put.Goals as goal
 

@@ -1,5 +1,4 @@
 -- `scan::emit::renamed` meets its contract. Assumes nothing.
-use borrow.Author.Rules.{rules}
 use Rattle.scan.proofs.emit.renamed.Goals as goal
 
 pub returns : goal.returns

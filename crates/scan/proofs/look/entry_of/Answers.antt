@@ -1,6 +1,5 @@
 -- `scan::look::entry_of` meets its contract. Assumes nothing.
 use Rattle.scan.proofs.{ListLaws.{entry-low, entry-last}}
-use borrow.Author.Rules.{rules}
 use Rattle.scan.proofs.look.entry_of.Goals as goal
 
 pub returns-then-op-lt-COUNT : goal.returns-then-op-lt-COUNT

@@ -2,7 +2,6 @@
 use mathlib.Core.{Path.{sym, ◌∙◌}, Bool.{false≢true}}
 use Rattle.scan.proofs.{ListLaws.{callable}}
 use native.Mathlib.Omega.{arith}
-use borrow.Author.Rules.{rules}
 use Rattle.scan.proofs.look.is_callable.Goals as goal
 
 pub returns : goal.returns

@@ -1,6 +1,6 @@
 -- `scan::look::is_let` meets its contract. Assumes nothing.
 use mathlib.Core.Path.{refl, ◌∙◌}
-use borrow.Author.{Tests.{le-leb, lt-leb}, Rules.{rules}}
+use borrow.Author.{Tests.{le-leb, lt-leb}}
 use Rattle.scan.specs.States.{lets}
 use Rattle.scan.proofs.look.is_let.Goals as goal
 

@@ -2,7 +2,6 @@
 use mathlib.Core.Bool.{false≢true}
 use Rattle.scan.proofs.{ListLaws.{pair-seen}}
 use native.Mathlib.Omega.{arith}
-use borrow.Author.Rules.{rules}
 use Rattle.scan.proofs.look.is_pair.Goals as goal
 
 pub returns : goal.returns

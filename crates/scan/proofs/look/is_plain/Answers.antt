@@ -1,6 +1,5 @@
 -- `scan::look::is_plain` meets its contract. Assumes nothing.
 use Rattle.scan.proofs.{ListLaws.{plain-block, plain-seen}}
-use borrow.Author.Rules.{rules}
 use Rattle.scan.proofs.look.is_plain.Goals as goal
 
 pub returns : goal.returns

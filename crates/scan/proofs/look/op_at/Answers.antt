@@ -1,6 +1,5 @@
 -- `scan::look::op_at` meets its contract. Assumes nothing.
 use Rattle.scan.proofs.{ListLaws.{looked}}
-use borrow.Author.Rules.{rules}
 use Rattle.scan.proofs.look.op_at.Goals as goal
 
 pub returns : goal.returns

@@ -1,7 +1,6 @@
 -- `scan::look::op_before` meets its contract. Assumes nothing.
 use Rattle.scan.proofs.{ListLaws.{before-first, before-other}}
 use mathlib.Core.Path.{◌∙◌}
-use borrow.Author.Rules.{rules}
 use Rattle.scan.proofs.look.op_before.Goals as goal
 
 pub returns : goal.returns

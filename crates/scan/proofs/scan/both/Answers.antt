@@ -3,7 +3,6 @@ use mathlib.Core.Path.{◌∙◌}
 use native.Mathlib.Omega.{arith}
 use Rattle.scan.specs.States.{nowhere}
 use Rattle.scan.proofs.{WalkingLaws.{had, came-below}}
-use borrow.Author.Rules.{rules}
 use Rattle.scan.proofs.scan.both.Goals as goal
 
 pub haves-requires : goal.haves-requires

@@ -2,9 +2,7 @@
 -- nothing.
 use mathlib.Core.Path.{refl, ◌∙◌}
 use native.Mathlib.Omega.{arith}
-use borrow.Author.Rules.{rules}
-use Rattle.scan.specs.Turns.{have}
-use Rattle.scan.proofs.{WalkingLaws.{Walking, have-on, had, walked_on}}
+use Rattle.scan.proofs.{WalkingLaws.{have-on, had, walked_on}}
 use Rattle.scan.proofs.scan.haves.Goals as goal
 
 pub loop-t-init : goal.loop-t-init

@@ -1,9 +1,6 @@
 -- `scan::scan::haves` meets its contract. The loop's invariant: the walk came here, in as many words. The measure is the place. Assumes
-use mathlib.Core.Path.{refl, ◌∙◌}
-use native.Mathlib.Omega.{arith}
-use borrow.Author.Rules.{rules}
 use Rattle.scan.specs.Turns.{have}
-use Rattle.scan.proofs.{WalkingLaws.{Walking, have-on, had, walked_on}}
+use Rattle.scan.proofs.{WalkingLaws.{Walking}}
 use Rattle.scan.proofs.scan.haves.Given as goal
 
 abbrev pub invariant-loop-t : goal.invariant-loop-t

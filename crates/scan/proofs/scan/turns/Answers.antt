@@ -2,9 +2,8 @@
 -- nothing.
 use mathlib.Core.Path.{refl, ◌∙◌}
 use native.Mathlib.Omega.{arith}
-use borrow.Author.Rules.{rules}
-use Rattle.scan.specs.{Turns.{want}, Scanning.{reached, stopped}}
-use Rattle.scan.proofs.{WalkingLaws.{Walking, wanted, ended}}
+use Rattle.scan.specs.{Scanning.{reached, stopped}}
+use Rattle.scan.proofs.{WalkingLaws.{wanted, ended}}
 use Rattle.scan.proofs.scan.turns.Goals as goal
 
 pub loop-t-init : goal.loop-t-init

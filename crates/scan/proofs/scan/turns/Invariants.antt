@@ -1,9 +1,6 @@
 -- `scan::scan::turns` meets its contract. The loop's invariant: the walk came here, in as many words. The measure is the place. Assumes
-use mathlib.Core.Path.{refl, ◌∙◌}
-use native.Mathlib.Omega.{arith}
-use borrow.Author.Rules.{rules}
-use Rattle.scan.specs.{Turns.{want}, Scanning.{reached, stopped}}
-use Rattle.scan.proofs.{WalkingLaws.{Walking, wanted, ended}}
+use Rattle.scan.specs.{Turns.{want}}
+use Rattle.scan.proofs.{WalkingLaws.{Walking}}
 use Rattle.scan.proofs.scan.turns.Given as goal
 
 abbrev pub invariant-loop-t : goal.invariant-loop-t

@@ -2,9 +2,7 @@
 -- nothing.
 use mathlib.Core.Path.{refl, ◌∙◌}
 use native.Mathlib.Omega.{arith}
-use borrow.Author.Rules.{rules}
-use Rattle.scan.specs.Turns.{want}
-use Rattle.scan.proofs.{WalkingLaws.{Walking, want-on, wanted, walked_on}}
+use Rattle.scan.proofs.{WalkingLaws.{want-on, wanted, walked_on}}
 use Rattle.scan.proofs.scan.wants.Goals as goal
 
 pub loop-t-init : goal.loop-t-init

@@ -1,9 +1,6 @@
 -- `scan::scan::wants` meets its contract. The loop's invariant: the walk came here, in as many words. The measure is the place. Assumes
-use mathlib.Core.Path.{refl, ◌∙◌}
-use native.Mathlib.Omega.{arith}
-use borrow.Author.Rules.{rules}
 use Rattle.scan.specs.Turns.{want}
-use Rattle.scan.proofs.{WalkingLaws.{Walking, want-on, wanted, walked_on}}
+use Rattle.scan.proofs.{WalkingLaws.{Walking}}
 use Rattle.scan.proofs.scan.wants.Given as goal
 
 abbrev pub invariant-loop-t : goal.invariant-loop-t

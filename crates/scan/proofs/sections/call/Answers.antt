@@ -2,7 +2,6 @@
 use Prim.Native.Nat.{◌+◌, ◌-◌}
 use Rattle.scan.specs.{Views.{View, read_from, laid}, Turns.{call_laid}, States.{view_of, haves}}
 use Rattle.scan.proofs.{TurnLaws.{then}}
-use borrow.Author.Rules.{rules}
 use Rattle.scan.proofs.sections.call.Goals as goal
 
 pub returns : goal.returns

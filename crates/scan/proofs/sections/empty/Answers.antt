@@ -1,9 +1,8 @@
 -- `scan::sections::empty` meets its contract. Assumes nothing.
-use mathlib.Core.Path.{refl, sym, ap, ◌∙◌}
+use mathlib.Core.Path.{refl, sym}
 use native.Mathlib.Omega.{arith}
-use Rattle.scan.specs.States.{view_of, given, stops}
+use Rattle.scan.specs.States.{view_of, stops}
 use Rattle.scan.proofs.{TurnLaws.{two-stand}, SectionLaws.{empty-called, empty-far}}
-use borrow.Author.Rules.{rules}
 use Rattle.scan.proofs.sections.empty.Goals as goal
 
 pub call-requires : goal.call-requires

@@ -2,7 +2,6 @@
 use native.Mathlib.Omega.{arith}
 use Rattle.scan.specs.{Views.{read_from}, States.{view_of}}
 use Rattle.scan.proofs.{SectionLaws.{pop-deep, pop-out, section-laid, section-free}}
-use borrow.Author.Rules.{rules}
 use Rattle.scan.proofs.sections.lay_section.Goals as goal
 
 pub lay-requires : goal.lay-requires

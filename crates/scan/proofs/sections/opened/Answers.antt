@@ -3,7 +3,6 @@ use mathlib.Core.Path.{refl}
 use native.Mathlib.Omega.{arith}
 use Rattle.scan.specs.States.{stops}
 use Rattle.scan.proofs.{SectionLaws.{opened-plain, opened-call, callable-far}}
-use borrow.Author.Rules.{rules}
 use Rattle.scan.proofs.sections.opened.Goals as goal
 
 pub returns-then-is_plain : goal.returns-then-is_plain

@@ -3,7 +3,6 @@ use mathlib.Core.Path.{refl}
 use native.Mathlib.Omega.{arith}
 use Rattle.scan.specs.{States.{given, stops}, Turns.{opened_turn}}
 use Rattle.scan.proofs.{SettleLaws.{based-ground}, TurnLaws.{then-turn, top_of, settled-stands, two-stand}, SectionLaws.{opener-own}}
-use borrow.Author.Rules.{rules}
 use Rattle.scan.proofs.sections.opener.Goals as goal
 
 pub settle-s-requires : goal.settle-s-requires

@@ -1,6 +1,5 @@
 -- `scan::sections::section` meets its contract. Assumes nothing.
 use Rattle.scan.specs.States.{haves}
-use borrow.Author.Rules.{rules}
 use Rattle.scan.proofs.sections.section.Goals as goal
 
 pub returns : goal.returns

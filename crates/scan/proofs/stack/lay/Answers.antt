@@ -1,5 +1,4 @@
 -- `scan::stack::lay` meets its contract. Assumes nothing.
-use borrow.Author.Rules.{rules}
 use Rattle.scan.proofs.{ViewLaws.{at-lay}}
 use Rattle.scan.proofs.stack.lay.Goals as goal
 

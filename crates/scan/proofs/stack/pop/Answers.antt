@@ -1,5 +1,4 @@
 -- `scan::stack::pop` meets its contract. Assumes nothing.
-use borrow.Author.Rules.{rules}
 use Rattle.scan.proofs.{ViewLaws.{at-pop}}
 use Rattle.scan.proofs.stack.pop.Goals as goal
 

@@ -1,5 +1,4 @@
 -- `scan::stack::push` meets its contract. Assumes nothing.
-use borrow.Author.Rules.{rules}
 use Rattle.scan.proofs.{ViewLaws.{at_push}}
 use Rattle.scan.proofs.stack.push.Goals as goal
 

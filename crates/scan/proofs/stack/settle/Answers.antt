@@ -1,7 +1,6 @@
 -- `scan::stack::settle` meets its contract. The loop's invariant: what is left to settle becomes the same as what was given. The measure
 -- is how deep the stack is. Assumes nothing.
-use borrow.Author.Rules.{rules}
-use Rattle.scan.proofs.{SettleLaws.{Settling, starts, two, less, again, ends}}
+use Rattle.scan.proofs.{SettleLaws.{starts, two, less, again, ends}}
 use Rattle.scan.proofs.stack.settle.Goals as goal
 
 pub loop-s-init : goal.loop-s-init

@@ -1,6 +1,5 @@
 -- `scan::stack::settle` meets its contract. The loop's invariant: what is left to settle becomes the same as what was given. The measure
-use borrow.Author.Rules.{rules}
-use Rattle.scan.proofs.{SettleLaws.{Settling, starts, two, less, again, ends}}
+use Rattle.scan.proofs.{SettleLaws.{Settling}}
 use Rattle.scan.proofs.stack.settle.Given as goal
 
 abbrev pub invariant-loop-s : goal.invariant-loop-s

@@ -1,6 +1,5 @@
 -- `scan::stack::take` meets its contract. Assumes nothing.
 use native.Mathlib.Omega.{arith}
-use borrow.Author.Rules.{rules}
 use Rattle.scan.proofs.{TurnLaws.{lay-deep, takes, take-free}}
 use Rattle.scan.proofs.stack.take.Goals as goal
 

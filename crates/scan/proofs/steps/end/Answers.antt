@@ -1,6 +1,5 @@
 -- `scan::steps::end` meets its contract. Assumes nothing.
 use native.Mathlib.Omega.{arith}
-use borrow.Author.Rules.{rules}
 use Rattle.scan.specs.States.{stops}
 use Rattle.scan.proofs.{SettleLaws.{based-ground}, TurnLaws.{end-done}}
 use Rattle.scan.proofs.steps.end.Goals as goal

@@ -1,6 +1,5 @@
 -- `scan::steps::is_left_over` meets its contract. Assumes nothing.
 use mathlib.Core.{Path.{refl, sym, ◌∙◌}, Bool.{◌&&◌}}
-use borrow.Author.Rules.{rules}
 use Rattle.scan.proofs.steps.is_left_over.Goals as goal
 
 pub returns-then-is_unpaired : goal.returns-then-is_unpaired

@@ -1,5 +1,4 @@
 -- `scan::steps::leaf` meets its contract. Assumes nothing.
-use borrow.Author.Rules.{rules}
 use Rattle.scan.specs.{Views.{read_from}, Turns.{leaf_turn}, States.{view_of, haves}}
 use Rattle.scan.proofs.steps.leaf.Goals as goal
 

@@ -1,6 +1,5 @@
 -- `scan::steps::operator` meets its contract. Assumes nothing.
 use native.Mathlib.Omega.{arith}
-use borrow.Author.Rules.{rules}
 use Rattle.scan.specs.{Views.{read_from}, States.{view_of, stops}}
 use Rattle.scan.proofs.{SettleLaws.{based-ground}, TurnLaws.{operator-waits}}
 use Rattle.scan.proofs.steps.operator.Goals as goal

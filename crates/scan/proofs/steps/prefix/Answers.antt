@@ -1,5 +1,4 @@
 -- `scan::steps::prefix` meets its contract. Assumes nothing.
-use borrow.Author.Rules.{rules}
 use Rattle.scan.specs.{Views.{read_from}, Turns.{prefix_turn}, States.{view_of, haves}}
 use Rattle.scan.proofs.steps.prefix.Goals as goal
 

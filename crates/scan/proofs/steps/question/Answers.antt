@@ -1,7 +1,6 @@
 -- `scan::steps::question` meets its contract: with the `:` that waits on top, or without one. Assumes nothing.
 use mathlib.Core.Path.{sym, ◌∙◌}
 use native.Mathlib.Omega.{arith}
-use borrow.Author.Rules.{rules}
 use Rattle.scan.proofs.{SettleLaws.{based-ground}, TurnLaws.{settled-stands, two-stand, pair-above, question-takes, question-asks}}
 use Rattle.scan.proofs.steps.question.Goals as goal
 

@@ -1,7 +1,5 @@
 -- `scan::steps::subtract` meets its contract. Assumes nothing.
-use Prim.Native.Nat.{◌+◌}
 use native.Mathlib.Omega.{arith}
-use borrow.Author.Rules.{rules}
 use Rattle.scan.specs.Turns.{subtract_turn, operator_turn}
 use Rattle.scan.proofs.{TurnLaws.{then-turn, lay-stands}}
 use Rattle.scan.proofs.steps.subtract.Goals as goal

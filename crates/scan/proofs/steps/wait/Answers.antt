@@ -1,5 +1,4 @@
 -- `scan::steps::wait` meets its contract. Assumes nothing.
-use borrow.Author.Rules.{rules}
 use Rattle.scan.specs.{Views.{read_from}, Turns.{wait_turn}, States.{view_of, wants}}
 use Rattle.scan.proofs.steps.wait.Goals as goal
 

@@ -5,7 +5,6 @@ use mir.Syntax.{w16}
 use Rattle.molang.specs.Order.{is_from, effective}
 use Rattle.scan.specs.Tables.{below_five, at_five, from_six}
 use Rattle.scan.proofs.{TableLaws.{below-five, at_five_lem, from-six}}
-use borrow.Author.Rules.{rules}
 use Rattle.scan.proofs.table.table_of.Goals as goal
 
 pub returns-then-is_from_6 : goal.returns-then-is_from_6

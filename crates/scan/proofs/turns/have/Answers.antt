@@ -3,7 +3,6 @@ use mathlib.Core.Path.{refl, sym, ◌∙◌}
 use native.Mathlib.Omega.{arith}
 use Rattle.scan.specs.States.{view_of, stops}
 use Rattle.scan.proofs.{ClassLaws.{have-end, have-next, up-before}}
-use borrow.Author.Rules.{rules}
 use Rattle.scan.proofs.turns.have.Goals as goal
 
 pub returns-then-s-eq0 : goal.returns-then-s-eq0

@@ -3,7 +3,6 @@ use mathlib.Core.Path.{refl}
 use native.Mathlib.Omega.{arith}
 use Rattle.scan.specs.{Turns.{have_by}, States.{stops}}
 use Rattle.scan.proofs.{ClassLaws.{have-class, have-operator, have-opener}}
-use borrow.Author.Rules.{rules}
 use Rattle.scan.proofs.turns.have_by.Goals as goal
 
 pub overflow_add-entry-in-1 : goal.overflow_add-entry-in-1

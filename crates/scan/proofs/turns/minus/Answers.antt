@@ -3,7 +3,6 @@ use mathlib.Core.Path.{refl}
 use native.Mathlib.Omega.{arith}
 use Rattle.scan.specs.States.{stops}
 use Rattle.scan.proofs.{ClassLaws.{minus-prefix, minus-binary, minus-two, pair_far, up-two}}
-use borrow.Author.Rules.{rules}
 use Rattle.scan.proofs.turns.minus.Goals as goal
 
 pub returns-then-before-eq1 : goal.returns-then-before-eq1

@@ -3,7 +3,6 @@ use mathlib.Core.Path.{refl, sym, ◌∙◌}
 use native.Mathlib.Omega.{arith}
 use Rattle.scan.specs.States.{view_of, stops}
 use Rattle.scan.proofs.{ClassLaws.{want-next, up-before}}
-use borrow.Author.Rules.{rules}
 use Rattle.scan.proofs.turns.want.Goals as goal
 
 pub want_by-requires : goal.want_by-requires

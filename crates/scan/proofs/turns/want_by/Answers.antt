@@ -2,7 +2,6 @@
 use mathlib.Core.Path.{refl}
 use Rattle.scan.specs.{Turns.{want_by}, States.{stops}}
 use Rattle.scan.proofs.{ClassLaws.{want-class, want-closer}}
-use borrow.Author.Rules.{rules}
 use Rattle.scan.proofs.turns.want_by.Goals as goal
 
 pub returns-in-1 : goal.returns-in-1

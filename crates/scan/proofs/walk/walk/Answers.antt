@@ -1,6 +1,5 @@
 -- `scan::walk::walk` meets its contract. Assumes nothing.
 use mir.Facts.{to_z-of_z}
-use borrow.Author.Rules.{rules}
 use Rattle.scan.proofs.{FoundLaws.{scanned}, WalkLaws.{can-emit, has-emitted}}
 use Rattle.scan.proofs.walk.walk.Goals as goal
 

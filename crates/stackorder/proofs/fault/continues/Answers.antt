@@ -2,7 +2,7 @@
 -- the words has at least. Assumes nothing.
 use mathlib.Core.Path.{sym, ◌∙◌}
 use native.Mathlib.Omega.{arith}
-use borrow.Author.{Tests.{not-true, not-false}, Rules.{rules}}
+use borrow.Author.{Tests.{not-true, not-false}}
 use Rattle.shape.{specs.Answers.{field_of}, proofs.WalkLaws.{illegal-stops, short-stops, walks-if}}
 use Rattle.stackorder.specs.Faults.{stack}
 use Rattle.molang.{specs.StackOrder.{stack_continues}, proofs.StackWords.{stack_walk}}

@@ -4,7 +4,6 @@ use native.Mathlib.{Numerals.{add-one}, Omega.{arith}}
 use Rattle.molang.specs.StackOrder.{stack_after, trees_asked}
 use Rattle.shape.{specs.Answers.{field_of}, proofs.CaseLaws.{not-count}}
 use Rattle.stackorder.specs.Faults.{stack}
-use borrow.Author.Rules.{rules}
 use Rattle.stackorder.proofs.fault.done_after.Goals as goal
 use borrow.Enum.Refused.{opened}
 

@@ -1,12 +1,11 @@
 -- `stackorder::fault::fault_after` meets its contract. The loop's invariant: the fault of the words that are left, at what was seen so
 -- far, is the fault of all. The measure is what is left of the words. Assumes nothing.
-use Prim.Native.Nat.{◌-◌}
 use mathlib.Core.Path.{sym, ◌∙◌}
 use native.Mathlib.Omega.{arith}
-use borrow.Author.{Rules.{rules}, Tests.{not-true, not-false}}
-use lib.ListN.{length, get_or}
+use borrow.Author.{Tests.{not-true, not-false}}
+use lib.ListN.{get_or}
 use Rattle.shape.{specs.Answers.{field_of}, proofs.WalkLaws.{fault-here, fault-none, fault-end}}
-use Rattle.stackorder.specs.Faults.{Stacked, stack}
+use Rattle.stackorder.specs.Faults.{stack}
 use Rattle.molang.{specs.StackOrder.{stack_continues}, proofs.StackWords.{stack_walk}}
 use Rattle.stackorder.proofs.{FaultLaws.{continued, begun-alike, stacked-more}}
 use Rattle.stackorder.proofs.fault.fault_after.Goals as goal

@@ -3,7 +3,6 @@ use mathlib.Core.{Path.{◌≡◌, refl}, Bool.{false}}
 use Rattle.molang.specs.StackOrder.{is_one_stack}
 use Rattle.shape.{specs.Answers.{field_of}, proofs.CaseLaws.{not-operator}}
 use Rattle.stackorder.specs.Faults.{stack}
-use borrow.Author.Rules.{rules}
 use Rattle.stackorder.proofs.fault.is_one.Goals as goal
 use borrow.Enum.Refused.{opened}
 

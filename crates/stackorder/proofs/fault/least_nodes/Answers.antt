@@ -7,7 +7,6 @@ use Rattle.molang.specs.StackOrder.{least_nodes}
 use Rattle.shape.{specs.Answers.{field_of}, proofs.CaseLaws.{not-count}}
 use Rattle.stackorder.specs.Faults.{stack}
 use Rattle.stackorder.proofs.{FaultLaws.{least-of-one, least-of-many}}
-use borrow.Author.Rules.{rules}
 use Rattle.stackorder.proofs.fault.least_nodes.Goals as goal
 use borrow.Enum.Refused.{opened}
 

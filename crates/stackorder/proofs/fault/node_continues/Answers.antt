@@ -2,7 +2,7 @@
 -- done. Assumes nothing.
 use mathlib.Core.Bool.{false≢true}
 use native.Mathlib.Omega.{arith}
-use borrow.Author.{Tests.{not-false, leb-true}, Rules.{rules}}
+use borrow.Author.{Tests.{not-false, leb-true}}
 use Rattle.stackorder.proofs.fault.node_continues.Goals as goal
 
 pub returns : goal.returns

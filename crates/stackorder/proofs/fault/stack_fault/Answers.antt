@@ -1,6 +1,5 @@
 -- `stackorder::fault::stack_fault` meets its contract: by the loop over the whole nodes and the loop over the words after them. Assumes
 -- nothing.
-use borrow.Author.Rules.{rules}
 use Rattle.stackorder.proofs.fault.stack_fault.Goals as goal
 
 pub fault_after-requires : goal.fault_after-requires

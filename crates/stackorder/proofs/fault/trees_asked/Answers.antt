@@ -2,7 +2,6 @@
 use mathlib.Core.Path.{◌≡◌, refl}
 use Rattle.molang.specs.StackOrder.{trees_asked}
 use Rattle.shape.{specs.Answers.{field_of}, proofs.CaseLaws.{not-count}}
-use borrow.Author.Rules.{rules}
 use Rattle.stackorder.proofs.fault.trees_asked.Goals as goal
 use borrow.Enum.Refused.{opened}
 

@@ -1,11 +1,8 @@
 -- `stackorder::fault::whole_nodes` meets its contract. The loop's invariant is what it ensures: the fault of the words that are left is
 use Prim.Native.Nat.{◌-◌}
-use native.Mathlib.Omega.{arith}
-use borrow.Author.{Rules.{rules}, Tests.{not-false}}
 use lib.ListN.{length}
-use Rattle.molang.specs.{Words.{operator_field}, StackOrder.{stack_after}}
+use Rattle.molang.specs.{Words.{operator_field}}
 use Rattle.stackorder.specs.Faults.{Stacked}
-use Rattle.stackorder.proofs.{FaultLaws.{stacked-start, stacked-node}}
 use Rattle.stackorder.proofs.fault.whole_nodes.Given as goal
 
 abbrev pub invariant-loop-at : goal.invariant-loop-at

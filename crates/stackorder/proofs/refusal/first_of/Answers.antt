@@ -1,6 +1,5 @@
 -- `stackorder::refusal::first_of` meets its contract, case by case. Assumes nothing.
 use mathlib.Core.Path.{sym, ap}
-use borrow.Author.Rules.{rules}
 use Rattle.molang.proofs.FirstFailure.{found, after_none}
 use Rattle.stackorder.specs.Filled.{refusal_in}
 use Rattle.stackorder.proofs.refusal.first_of.Goals as goal

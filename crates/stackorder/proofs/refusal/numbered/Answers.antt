@@ -1,6 +1,5 @@
 -- `stackorder::refusal::numbered` meets its contract, case by case. Assumes nothing.
 use mathlib.Core.Path.{sym, ap}
-use borrow.Author.Rules.{rules}
 use Rattle.molang.specs.Words.{with_number}
 use Rattle.shape.specs.declared.Fault.{Fault}
 use Rattle.stackorder.specs.Faults.{place_of}

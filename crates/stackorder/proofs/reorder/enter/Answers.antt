@@ -2,7 +2,6 @@
 use mathlib.Core.Path.{refl}
 use native.Mathlib.Omega.{arith}
 use lib.ListN.{length-set}
-use borrow.Author.Rules.{rules}
 use Rattle.stackorder.proofs.reorder.enter.Goals as goal
 
 pub next-requires : goal.next-requires

@@ -1,6 +1,5 @@
 -- `stackorder::reorder::leave` meets its contract. Assumes nothing.
 use native.Mathlib.Omega.{arith}
-use borrow.Author.Rules.{rules}
 use Rattle.stackorder.proofs.reorder.leave.Goals as goal
 
 pub overflow_sub-at : goal.overflow_sub-at

@@ -1,5 +1,4 @@
 -- `stackorder::reorder::next` meets its contract, direction by direction. Assumes nothing.
-use borrow.Author.Rules.{rules}
 use Rattle.stackorder.proofs.reorder.next.Goals as goal
 
 pub returns-in-Forward : goal.returns-in-Forward

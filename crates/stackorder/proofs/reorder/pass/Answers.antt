@@ -1,6 +1,5 @@
 -- `stackorder::reorder::pass` meets its contract. Assumes nothing.
 use native.Mathlib.Omega.{arith}
-use borrow.Author.Rules.{rules}
 use Rattle.stackorder.proofs.reorder.pass.Goals as goal
 
 pub copy-requires : goal.copy-requires

@@ -1,10 +1,9 @@
 -- `stackorder::reorder::reorder` meets its contract. The loop's invariant: what is out and what is to come are the whole tree in the other
 -- order. The measure is the way that is left, to read and to write. Assumes nothing.
 use mathlib.Core.Path.{◌≡◌, refl, ap, ◌∙◌}
-use borrow.Author.Rules.{rules}
 use lib.ListN.{length}
 use Rattle.stackorder.specs.{declared.reorder.Direction.{Direction}, Reorder.{CanReorder, other_way, first_end}}
-use Rattle.stackorder.proofs.ReorderLaws.{Walks, way_of, last_within, begins, can, again, less, ends}
+use Rattle.stackorder.proofs.ReorderLaws.{last_within, begins, can, again, less, ends}
 use Rattle.stackorder.proofs.reorder.reorder.Goals as goal
 use Rattle.stackorder.proofs.reorder.reorder.Lts as lts
 use Rattle.stackorder.proofs.reorder.reorder.Tie as tie

@@ -1,9 +1,6 @@
 -- `stackorder::reorder::reorder` meets its contract. The loop's invariant: what is out and what is to come are the whole tree in the other
-use mathlib.Core.Path.{◌≡◌, refl, ap, ◌∙◌}
-use borrow.Author.Rules.{rules}
-use lib.ListN.{length}
-use Rattle.stackorder.specs.{declared.reorder.Direction.{Direction}, Reorder.{CanReorder, other_way, first_end}}
-use Rattle.stackorder.proofs.ReorderLaws.{Walks, way_of, last_within, begins, can, again, less, ends}
+use Rattle.stackorder.specs.{Reorder.{CanReorder}}
+use Rattle.stackorder.proofs.ReorderLaws.{Walks, way_of}
 use Rattle.stackorder.proofs.reorder.reorder.Given as goal
 
 abbrev pub invariant-loop-cursor : goal.invariant-loop-cursor

@@ -2,7 +2,6 @@
 use mathlib.Core.Path.{sym, ◌∙◌}
 use native.Mathlib.Omega.{arith}
 use Rattle.stackorder.specs.Reorder.{leaves, passes, enters}
-use borrow.Author.Rules.{rules}
 use Rattle.stackorder.proofs.reorder.turn.Goals as goal
 
 pub returns-then-cursor-eq0 : goal.returns-then-cursor-eq0

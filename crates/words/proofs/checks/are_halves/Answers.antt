@@ -2,7 +2,7 @@
 -- nothing.
 use mathlib.Core.Bool.{false≢true}
 use native.Mathlib.Omega.{arith}
-use borrow.Author.{Rules.{rules}, Tests.{leb-true}}
+use borrow.Author.{Tests.{leb-true}}
 use Rattle.words.proofs.{CheckLaws.{halves-good}}
 use Rattle.words.proofs.checks.are_halves.Goals as goal
 

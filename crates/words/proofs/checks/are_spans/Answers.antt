@@ -1,7 +1,7 @@
 -- `words::checks::are_spans` meets its contract: two kinds of three bits are read off one number. Assumes nothing.
 use Prim.Native.Nat.{◌+◌, ◌*◌, ◌/◌}
 use native.Mathlib.Omega.{arith}
-use borrow.Author.{Rules.{rules}, Tests.{eqb-true}}
+use borrow.Author.{Tests.{eqb-true}}
 use Rattle.molang.specs.Words.{kind_of}
 use Rattle.words.proofs.checks.are_spans.Goals as goal
 

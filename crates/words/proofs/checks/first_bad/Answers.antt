@@ -1,7 +1,6 @@
 -- `words::checks::first_bad` meets its contract: each word is good or ends the check at its place. Assumes nothing.
 use mathlib.Core.{Path.{◌≡◌, sym, ap, ◌∙◌}, List.{[], ◌∷◌}, Option.{Option}}
 use Prim.Native.Nat.{◌+◌}
-use borrow.Author.Rules.{rules}
 use borrow.Enum.Refused.{opened}
 use Rattle.molang.specs.Words.{operator_field, start_field, end_field, upper_field, lower_field, Refusal, words_refusal}
 use Rattle.words.specs.{Fields.{variant_of}, Checks.{number_of}, Tokens.{five_words}}

@@ -1,6 +1,6 @@
 -- `words::checks::half_word` meets its contract: kind first, then the low bits, by the payload variant. Assumes nothing.
 use mathlib.Core.Path.{sym, ◌∙◌}
-use borrow.Author.{Rules.{rules}, Tests.{eq-eqb, ne_eqb}}
+use borrow.Author.{Tests.{eq-eqb, ne_eqb}}
 use Rattle.molang.{specs.FirstFailure.{must, first_of}, specs.Words.{low_fault}, proofs.FirstFailure.{last_one}}
 use Rattle.words.proofs.checks.half_word.Goals as goal
 

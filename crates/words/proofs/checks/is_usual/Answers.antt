@@ -1,6 +1,6 @@
 -- `words::checks::is_usual` meets its contract: the tests are those of the five words. Assumes nothing.
 use mathlib.Core.Bool.{false≢true}
-use borrow.Author.{Rules.{rules}, Tests.{not-false}}
+use borrow.Author.{Tests.{not-false}}
 use Rattle.words.proofs.{CheckLaws.{tests-passed}}
 use Rattle.words.proofs.checks.is_usual.Goals as goal
 

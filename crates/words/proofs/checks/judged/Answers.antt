@@ -1,5 +1,4 @@
 -- `words::checks::judged` meets its contract: case by case. Assumes nothing.
-use borrow.Author.Rules.{rules}
 use Rattle.words.proofs.checks.judged.Goals as goal
 
 pub returns-in-WrongKind : goal.returns-in-WrongKind

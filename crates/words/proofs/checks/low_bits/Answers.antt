@@ -1,6 +1,6 @@
 -- `words::checks::low_bits` meets its contract: operator, payload variant, other bits, in this order. Assumes nothing.
 use mathlib.Core.Path.{sym, ◌∙◌}
-use borrow.Author.{Rules.{rules}, Tests.{le-leb, lt-leb, not-true, not-false}}
+use borrow.Author.{Tests.{le-leb, lt-leb, not-true, not-false}}
 use Rattle.molang.{specs.FirstFailure.{must, first_of}, proofs.FirstFailure.{last_one}}
 use Rattle.words.proofs.{CheckLaws.{operator-tests}}
 use Rattle.words.proofs.checks.low_bits.Goals as goal

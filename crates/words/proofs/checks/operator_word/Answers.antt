@@ -1,6 +1,6 @@
 -- `words::checks::operator_word` meets its contract: kind, then the low bits. Assumes nothing.
 use mathlib.Core.Path.{sym, ◌∙◌}
-use borrow.Author.{Rules.{rules}, Tests.{eq-eqb, ne_eqb}}
+use borrow.Author.{Tests.{eq-eqb, ne_eqb}}
 use Rattle.molang.{specs.FirstFailure.{must, first_of}, specs.Words.{field_kind, word_fault}, proofs.FirstFailure.{last_one}}
 use Rattle.words.proofs.checks.operator_word.Goals as goal
 

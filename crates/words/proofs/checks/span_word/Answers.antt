@@ -1,5 +1,5 @@
 -- `words::checks::span_word` meets its contract: one test. Assumes nothing.
-use borrow.Author.{Rules.{rules}, Tests.{eq-eqb, ne_eqb}}
+use borrow.Author.{Tests.{eq-eqb, ne_eqb}}
 use Rattle.molang.specs.{FirstFailure.{must, first_of}, Words.{low_fault}}
 use Rattle.words.proofs.checks.span_word.Goals as goal
 

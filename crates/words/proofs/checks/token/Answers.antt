@@ -1,7 +1,6 @@
 -- `words::checks::token` meets its contract: a token that passes the tests of `is_bare` or of `is_usual` is good, any other is looked at
 -- word by word. Assumes nothing.
 use mathlib.Core.Path.{sym}
-use borrow.Author.Rules.{rules}
 use Rattle.words.proofs.checks.token.Goals as goal
 
 pub returns-then-is_bare : goal.returns-then-is_bare

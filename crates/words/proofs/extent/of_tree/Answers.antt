@@ -1,12 +1,11 @@
 -- `words::extent::of_tree` meets its contract: what was seen, with the trees that are still called for, has the first tree's extent.
 -- Assumes nothing.
-use Prim.Native.Nat.{ℕ, suc, ◌+◌, ◌*◌, ◌-◌, ◌^◌, ◌≤◌, ◌<◌}
+use Prim.Native.Nat.{ℕ, suc, ◌+◌, ◌-◌, ◌≤◌, ◌<◌}
 use mathlib.Core.{Path.{◌≡◌, refl, sym, ap, ◌∙◌}, List.{List}}
 use native.Mathlib.Omega.{arith}
-use borrow.Author.Rules.{rules}
 use lib.{ListN.{length, get_or, drop, length-drop}, Seq.{get_or-drop, drop-drop}}
 use Rattle.molang.specs.{Words.{low_of}, Read.{lowest_start, highest_end}, WriteEntry.{first_trees, trees_of}}
-use Rattle.words.specs.{Extents.{wider, extent_with, first_extent}, declared.extent.Extent.{Extent}}
+use Rattle.words.specs.{Extents.{wider, extent_with}, declared.extent.Extent.{Extent}}
 use Rattle.words.proofs.{TreeLaws.{no-tree, none_first, extent-step, from_nothing}}
 use Rattle.words.proofs.extent.of_tree.Goals as goal
 

@@ -1,12 +1,9 @@
 -- `words::extent::of_tree` meets its contract: what was seen, with the trees that are still called for, has the first tree's extent.
-use Prim.Native.Nat.{ℕ, suc, ◌+◌, ◌*◌, ◌-◌, ◌^◌, ◌≤◌, ◌<◌}
-use mathlib.Core.{Path.{◌≡◌, refl, sym, ap, ◌∙◌}, List.{List}}
-use native.Mathlib.Omega.{arith}
-use borrow.Author.Rules.{rules}
-use lib.{ListN.{length, get_or, drop, length-drop}, Seq.{get_or-drop, drop-drop}}
-use Rattle.molang.specs.{Words.{low_of}, Read.{lowest_start, highest_end}, WriteEntry.{first_trees, trees_of}}
-use Rattle.words.specs.{Extents.{wider, extent_with, first_extent}, declared.extent.Extent.{Extent}}
-use Rattle.words.proofs.{TreeLaws.{no-tree, none_first, extent-step, from_nothing}}
+use Prim.Native.Nat.{◌+◌, ◌*◌, ◌-◌, ◌^◌, ◌≤◌, ◌<◌}
+use mathlib.Core.{Path.{◌≡◌}}
+use lib.{ListN.{length, drop}}
+use Rattle.molang.specs.{WriteEntry.{first_trees, trees_of}}
+use Rattle.words.specs.{Extents.{extent_with, first_extent}}
 use Rattle.words.proofs.extent.of_tree.Given as goal
 
 abbrev pub invariant-loop-trees : goal.invariant-loop-trees

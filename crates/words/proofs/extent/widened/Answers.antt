@@ -1,7 +1,6 @@
 -- `words::extent::widened` meets its contract: the lesser start and the greater end. Assumes nothing.
 use mathlib.Core.Path.{ap, ap₂, ◌∙◌}
 use Prim.Native.Nat.{ℕ, min, max}
-use borrow.Author.Rules.{rules}
 use Rattle.words.specs.{Extents.{wider}, declared.extent.Extent.{Extent}}
 use Rattle.words.proofs.extent.widened.Goals as goal
 

@@ -2,7 +2,6 @@
 use Prim.Native.Nat.{◌%◌, ◌/◌, ◌^◌}
 use mathlib.Core.Path.{◌≡◌}
 use native.Mathlib.Omega.{arith}
-use borrow.Author.Rules.{rules}
 use lib.Pow.{field, mod-mod-pow}
 use Rattle.molang.specs.Words.{word, operator_bits}
 use Rattle.words.proofs.fields.number_word.Goals as goal

@@ -1,6 +1,5 @@
 -- `words::fields::operator` meets its contract: the bits below the kind hold both parts. Assumes nothing.
 use native.Mathlib.Omega.{arith}
-use borrow.Author.Rules.{rules}
 use Rattle.words.proofs.{FieldLaws.{number-bits}}
 use Rattle.words.proofs.fields.operator.Goals as goal
 

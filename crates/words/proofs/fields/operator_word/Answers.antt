@@ -1,6 +1,5 @@
 -- `words::fields::operator_word` meets its contract: by computation. Assumes nothing.
 use mathlib.Core.Path.{refl}
-use borrow.Author.Rules.{rules}
 use Rattle.molang.specs.Words.{word}
 use Rattle.words.proofs.fields.operator_word.Goals as goal
 

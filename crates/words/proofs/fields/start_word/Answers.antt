@@ -1,6 +1,5 @@
 -- `words::fields::start_word` meets its contract: by computation. Assumes nothing.
 use mathlib.Core.Path.{refl}
-use borrow.Author.Rules.{rules}
 use Rattle.molang.specs.Words.{word, low_of}
 use Rattle.words.proofs.fields.start_word.Goals as goal
 

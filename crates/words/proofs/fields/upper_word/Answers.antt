@@ -1,6 +1,5 @@
 -- `words::fields::upper_word` meets its contract: by computation. Assumes nothing.
 use mathlib.Core.Path.{refl}
-use borrow.Author.Rules.{rules}
 use Rattle.molang.specs.Words.{word}
 use Rattle.words.proofs.fields.upper_word.Goals as goal
 

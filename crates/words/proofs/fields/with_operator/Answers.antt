@@ -2,7 +2,6 @@
 use Prim.Native.Nat.{ℕ, ◌%◌, ◌/◌, ◌^◌}
 use mathlib.Core.Path.{◌≡◌, ap, ◌∙◌}
 use native.Mathlib.Omega.{arith}
-use borrow.Author.Rules.{rules}
 use lib.Pow.{field, mod-mod-pow}
 use Rattle.molang.specs.Words.{low_of}
 use Rattle.words.specs.Fields.{variant_of, with_operator}

@@ -1,7 +1,6 @@
 -- `words::records::put` meets its contract: eight stores, one after another. Assumes nothing.
 use native.Mathlib.{Numerals.{towards_suc}, Omega.{arith}}
 use lib.ListN.{length-set}
-use borrow.Author.Rules.{rules}
 use Rattle.molang.specs.Message.{record8}
 use Rattle.words.specs.Records.{eight_words}
 use Rattle.words.proofs.{RecordLaws.{laid-sets}}

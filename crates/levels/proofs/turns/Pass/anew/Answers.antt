@@ -1,6 +1,5 @@
 -- `anew`, arm by arm.
 use mathlib.Core.Path.{sym}
-use borrow.Author.Rules.{rules}
 use Rattle.levels.proofs.turns.Pass.anew.Goals as goal
 
 pub returns-in-Split : goal.returns-in-Split

@@ -1,6 +1,5 @@
 -- `begun`, arm by arm.
 use mathlib.Core.Path.{sym, ap}
-use borrow.Author.Rules.{rules}
 use Rattle.levels.specs.Passes.{begun_of}
 use Rattle.levels.proofs.{States.{begun-same}}
 use Rattle.levels.proofs.turns.Pass.begun.Goals as goal

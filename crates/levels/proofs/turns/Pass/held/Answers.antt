@@ -1,5 +1,4 @@
 -- `held`, arm by arm.
-use borrow.Author.Rules.{rules}
 use Rattle.levels.proofs.{States.{held_none}}
 use Rattle.levels.proofs.turns.Pass.held.Goals as goal
 use borrow.Enum.Refused.{opened}

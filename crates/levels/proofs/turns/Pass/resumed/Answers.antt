@@ -2,9 +2,7 @@
 use mathlib.Core.Path.{◌∙◌}
 use Rattle.levels.specs.Passes.{resumed_with}
 use Rattle.levels.proofs.{States.{resumed-as, resumed-statements, resumed-same}}
-use borrow.Author.Rules.{rules}
 use Rattle.levels.proofs.turns.Pass.resumed.Goals as goal
-use borrow.Enum.Refused.{opened}
 
 pub returns-in-Unsplit : goal.returns-in-Unsplit
 returns-in-Unsplit c =

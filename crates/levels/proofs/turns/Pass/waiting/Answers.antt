@@ -1,6 +1,5 @@
 -- `waiting`, arm by arm.
 use mathlib.Core.Path.{sym, ap}
-use borrow.Author.Rules.{rules}
 use Rattle.levels.specs.Passes.{waiting_of}
 use Rattle.levels.proofs.{States.{waiting_none}}
 use Rattle.levels.proofs.turns.Pass.waiting.Goals as goal

@@ -1,7 +1,6 @@
 -- `nodes::stored::StoredWords::lay` meets its contract: five stores, one after another. Assumes nothing.
 use native.Mathlib.{Numerals.{towards_suc}, Omega.{arith}}
 use lib.ListN.{length-set}
-use borrow.Author.Rules.{rules}
 use Rattle.nodes.specs.Stored.{stored_list}
 use Rattle.words.proofs.RecordLaws.{laid-sets}
 use Rattle.nodes.proofs.stored.StoredWords.lay.Goals as goal

@@ -1,5 +1,4 @@
 -- `nodes::stored::StoredWords::of` meets its contract: by its two made words. Assumes nothing.
-use borrow.Author.Rules.{rules}
 use Rattle.nodes.proofs.stored.StoredWords.of.Goals as goal
 
 pub returns : goal.returns

@@ -1,5 +1,4 @@
 -- `nodes::stored::StoredWords::token` meets its contract: by the words of the value's halves. Assumes nothing.
-use borrow.Author.Rules.{rules}
 use Rattle.nodes.proofs.stored.StoredWords.token.Goals as goal
 
 pub returns : goal.returns

@@ -2,7 +2,6 @@
 use mathlib.Core.List.{[], ◌∷◌}
 use Rattle.molang.specs.{Operator.{any}, Parse.{in_halves}}
 use Rattle.ops.proofs.{SetLaws.{or-first, or-second}}
-use borrow.Author.Rules.{rules}
 use Rattle.ops.proofs.sets.OpSet.has_some.Goals as goal
 
 pub returns-then-contains : goal.returns-then-contains

@@ -1,5 +1,4 @@
 -- `words::tokens::TokenWords::bare` meets its contract: by its three made words. Assumes nothing.
-use borrow.Author.Rules.{rules}
 use Rattle.words.proofs.tokens.TokenWords.bare.Goals as goal
 
 pub returns : goal.returns

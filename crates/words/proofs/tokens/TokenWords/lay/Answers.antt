@@ -1,7 +1,6 @@
 -- `words::tokens::TokenWords::lay` meets its contract: five stores, one after another. Assumes nothing.
 use native.Mathlib.{Numerals.{towards_suc}, Omega.{arith}}
 use lib.ListN.{length-set}
-use borrow.Author.Rules.{rules}
 use Rattle.words.specs.Tokens.{five_words}
 use Rattle.words.proofs.{RecordLaws.{laid-sets}}
 use Rattle.words.proofs.tokens.TokenWords.lay.Goals as goal

@@ -1,0 +1,42 @@
+-- `liftcount::feed::feed_bytes` meets its contract. The invariant: the bytes from `i` on lead from here to where all lead. Assumes nothing.
+use Prim.Native.Nat.{◌+◌, ◌-◌, ◌≤◌}
+use mathlib.Core.Path.{◌≡◌, refl, ap, sym, ◌∙◌}
+use native.Mathlib.Omega.{arith}
+use borrow.Author.Rules.{rules}
+use lib.ListN.{length, drop}
+use Rattle.liftcount.specs.{Running.{State, state_of, fed}, Judging.{Scratch}}
+use Rattle.liftcount.proofs.{FeedLaws.{byte-on, fed-end, scratch-kept}}
+use Rattle.liftcount.proofs.feed.feed_bytes.Goals as goal
+
+pub loop-i-init : goal.loop-i-init
+loop-i-init c =
+    (omega arith, c.requires.list_len, c.requires.scratch, refl)
+
+pub overflow_add-i : goal.overflow_add-i
+overflow_add-i c =
+    omega (arith, c.loop-i-test.true, c.before.before.before.before.before.before.before.before.before.before.before.before.before.before.before.before.before.before.before.before.before.before.before.before.before)
+
+pub loop-i-preserved : goal.loop-i-preserved
+loop-i-preserved c =
+    let took = c.take_byte-then in
+    let back = took.auto.1.1.1 in
+    let at = c.loop-i in
+    let bytes = c.args.bytes.now in (
+      omega arith,
+      omega (arith, took.auto.1.0, at.invariant.1),
+      scratch-kept at.invariant.2 back.0 back.1.0 back.1.1.0 back.1.1.1.0,
+      ap (λ (s : State). fed s (drop (at.i + 1) bytes)) took.ensures
+          ∙ sym (byte-on (state_of at.then at.list) bytes at.i c.loop-i-test.true)
+          ∙ at.invariant.3,
+    )
+
+pub returns : goal.returns
+returns c =
+    let at = c.loop-i in
+    let bytes = c.args.bytes.now in
+    sym (fed-end (state_of at.then at.list) bytes at.i (omega arith)) ∙ at.invariant.3
+
+pub take_byte-then-requires : goal.take_byte-then-requires
+take_byte-then-requires c =
+    let at = c.loop-i in
+    record { list_len = at.invariant.1; scratch = at.invariant.2 }

@@ -1,0 +1,25 @@
+-- `liftlists::finish` hands over the last bytes of the lifted file. Assumes nothing.
+use mathlib.Core.Path.{sym}
+use native.Mathlib.Omega.{arith}
+use lib.Seq.{length-take-le}
+use Rattle.liftlists.specs.Steps.{held_in}
+use Rattle.liftlists.proofs.{GoingLaws.{ends_last}}
+use borrow.Author.Rules.{rules}
+use Rattle.liftlists.proofs.finish.Goals as goal
+
+pub close_last-closed-requires : goal.close_last-closed-requires
+close_last-closed-requires g c =
+    let p = c.requires in
+    record { list_len = (p.list_len.0, p.list_len.1, omega (arith, p.list_len.2, p.list_len.3)); lift_scratch = p.lift_scratch; fine = p.fine.0 }
+
+pub slice_bounds-hand_last-end : goal.slice_bounds-hand_last-end
+slice_bounds-hand_last-end g c = search rules
+
+pub slice_bounds-hand_last-end-2 : goal.slice_bounds-hand_last-end-2
+slice_bounds-hand_last-end-2 g c = sym (length-take-le _ _ (slice_bounds-hand_last-end c.before))
+
+pub hand_last-requires : goal.hand_last-requires
+hand_last-requires g c =
+    let a = c.args in
+    ends_last a.to (held_in a.stage a.list.now) a.out.now a.at c.requires.fine.1 c.requires.list_len.4
+    (omega (arith, c.requires.list_len.2, c.requires.list_len.3)) c.close_last-closed.ensures.wrote c.put_bytes-last.ensures

@@ -1,0 +1,18 @@
+-- `verdicts::read_at` meets its contract: each turn reads at one version, and those that are left fall. Assumes nothing.
+use Prim.Native.Nat.{◌+◌, ◌-◌}
+use mathlib.Core.Path.{◌≡◌, refl, sym, ◌∙◌}
+use native.Mathlib.Omega.{arith}
+use borrow.Author.Rules.{rules}
+use mir.{Syntax.{w16}, Facts.{to_z-of_z}}
+use Rattle.molang.specs.Lines.{version_of}
+use Rattle.verdicts.specs.Verdicts.{difference_of, read_verdict, fresh_call, from_version, at_versions}
+use Rattle.verdicts.proofs.{VerdictLaws.{found-same, found-other, none_left}}
+use Rattle.verdicts.proofs.read_at.Given as goal
+
+abbrev pub invariant-loop-bits : goal.invariant-loop-bits
+invariant-loop-bits l =
+    from_version (l.last + 1 - l.bits) l.bits l.list l.limit l.said ≡ at_versions l.list l.mark l.said
+
+abbrev pub decreases-loop-bits : goal.decreases-loop-bits
+decreases-loop-bits l =
+    l.last + 1 - l.bits
