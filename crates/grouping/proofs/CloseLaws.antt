@@ -4,7 +4,7 @@ use Prim.Native.Nat.{ℕ, ◌+◌, ◌-◌, ◌≤◌, ◌<◌}
 use mathlib.Core.{Path.{◌≡◌, refl, sym, ap, ◌∙◌, subst, subst₂}, Logic.{◌≢◌, inl}, Bool.{false, true≢false}, List.{List, ◌∷◌}}
 use native.Mathlib.{Omega.{arith}, Nat.{le_refl}}
 use lib.ListN.{length}
-use Rattle.molang.{specs.Forest.{Token, Forest, nil, node, count}, specs.Message.{Result, ok}}
+use Rattle.molang.{specs.Forest.{Token, Forest, nil, node}, specs.Message.{Result, ok}}
 use Rattle.molang.{specs.Calls.{unindexed, named, indexed, array_level, array_resume}, specs.Free.{is_nil}}
 use Rattle.molang.specs.Work.{Kind, calls, statements, arrays, unary_minus_and_not, conditional, returns, binary, State, work, takes, and_then}
 use Rattle.molang.{specs.Work.{Held, held, unwound}, proofs.Work.{unwound-fail}}

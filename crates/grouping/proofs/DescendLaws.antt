@@ -3,7 +3,7 @@ use Prim.Native.Nat.{ℕ, ◌+◌, ◌<◌}
 use mathlib.Core.{Path.{◌≡◌, refl, sym, ap, ◌∙◌, subst, subst₂}, Logic.{inl}, Bool.{false, true≢false}, List.{List, ◌∷◌}}
 use native.Mathlib.Omega.{arith}
 use lib.ListN.{length}
-use Rattle.molang.specs.{Forest.{Token, Forest, nil, node, count}, Message.{ok}, Free.{is_nil}, Work.{Kind, State, work, in_reading, held}}
+use Rattle.molang.specs.{Forest.{Token, Forest, nil, node}, Message.{ok}, Free.{is_nil}, Work.{Kind, State, work, in_reading, held}}
 use Rattle.molang.proofs.{Trees.{count-size}, Work.{reading-size, reading-count}}
 use Rattle.nodes.specs.{Store.{wd, slot_words, slot_start, RepT, Owned}, Frames.{CanPush, Pushed}, declared.frames.List.{List as Items}}
 use Rattle.nodes.specs.declared.frames.Held.{Held as Words}

@@ -4,7 +4,7 @@ use Prim.Native.Nat.{ℕ, ◌+◌, ◌≤◌, ◌<◌}
 use mathlib.Core.{Path.{◌≡◌, refl, sym, ◌∙◌, subst, subst₂}, Logic.{inl}, List.{List, [], ◌∷◌}}
 use native.Mathlib.{Omega.{arith}, Nat.{le_refl}}
 use lib.ListN.{length}
-use Rattle.molang.specs.{Forest.{Forest, count}, Message.{Result}, Calls.{array_level}}
+use Rattle.molang.specs.{Forest.{Forest}, Message.{Result}, Calls.{array_level}}
 use Rattle.molang.specs.Work.{Kind, calls, statements, arrays, unary_minus_and_not, conditional, returns, binary, State, work, begins}
 use Rattle.molang.specs.Work.{in_reading, pass, Held, unwound}
 use Rattle.molang.proofs.{Trees.{count-size}, Work.{pass-begins, reading-size, reading-count}}

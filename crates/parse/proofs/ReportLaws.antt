@@ -5,7 +5,7 @@ use mathlib.Core.{Path.{◌≡◌, refl, sym, ap, ◌∙◌}, List.{List, [], �
 use native.Mathlib.Omega.{arith}
 use lib.ListN.{length}
 use Rattle.molang.specs.Forest.{Token}
-use Rattle.molang.specs.Message.{Message, message_record, multiple_roots, closing_mismatch, section_not_closed, no_closing_symbol, closer, record8}
+use Rattle.molang.specs.Message.{Message, message_record, multiple_roots, closing_mismatch, section_not_closed, no_closing_symbol, record8}
 use Rattle.molang.specs.{Message.{about}, Read.{Answer, messages}, Parse.{record_words, in_front, messages_in}}
 use Rattle.molang.proofs.Bounds.{record-length, records-length}
 use Rattle.words.specs.{Records.{unnamed, eight_words, laid_at}, declared.records.Record.{Record}}

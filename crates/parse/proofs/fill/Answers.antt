@@ -1,5 +1,4 @@
 -- `parse::fill` meets its contract: what is left says which case of the answer it stands for. Assumes nothing.
-use borrow.Author.Rules.{rules}
 use Rattle.parse.proofs.FillLaws.{fill-report, fill-report-two, failed-filled, mismatch-filled, unclosed-filled, pointer-filled}
 use Rattle.parse.proofs.fill.Goals as goal
 

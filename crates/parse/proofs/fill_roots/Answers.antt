@@ -1,5 +1,4 @@
 -- `parse::fill_roots` meets its contract: no root, several, or one. Assumes nothing.
-use borrow.Author.Rules.{rules}
 use mathlib.Core.Path.{sym, ◌∙◌}
 use Rattle.parse.proofs.FillLaws.{none_filled, root-within, several-room, several-filled, one-room, one-filled}
 use Rattle.parse.proofs.fill_roots.Goals as goal

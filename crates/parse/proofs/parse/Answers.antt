@@ -1,17 +1,15 @@
 -- `parse::parse` meets its contract: a call that the table turns back, or one that is read, after which the work buffer is cleared. Assumes
 -- nothing.
-use borrow.Author.Rules.{rules}
 use Prim.Native.Nat.{ℕ, ◌+◌, ◌*◌}
-use lib.ListN.{replicate, take}
+use lib.ListN.{replicate}
 use mir.Facts.{to_z-of_z}
 use mathlib.Core.Path.{◌≡◌, sym, ap, ◌∙◌}
 use native.Mathlib.Omega.{arith}
 use Rattle.molang.specs.Parse.{Call}
 use Rattle.accept.{specs.Accepting.{is_read, verdict_of}, proofs.AcceptLaws.{Readable, checked, reads-call}}
-use Rattle.parse.specs.{Answers.{call}, Fills.{CanRead}}
+use Rattle.parse.specs.{Answers.{call}}
 use Rattle.parse.proofs.{EntryLaws.{refused-meets, read_meets, call-reads, part-long}}
 use Rattle.parse.proofs.parse.Goals as goal
-use Rattle.parse.proofs.parse.Lts as lts
 use mir.Syntax.{w16}
 
 known : (k : Call) (n : ℕ) → is_read n ≡ checked k → Readable k n

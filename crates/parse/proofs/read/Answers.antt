@@ -1,8 +1,6 @@
 -- `parse::read` meets its contract: a tree that the walk read, or what the passes make of the list. Assumes nothing.
-use borrow.Author.Rules.{rules}
-use mathlib.Core.Path.{◌≡◌}
 use mir.Facts.{to_z-of_z}
-use Rattle.parse.proofs.{EntryLaws.{read_walk, walk-done, walk_kept, walk-left, walk-then}}
+use Rattle.parse.proofs.{EntryLaws.{walk-done, walk_kept, walk-left, walk-then}}
 use Rattle.parse.proofs.read.Goals as goal
 use mir.Syntax.{w16}
 

@@ -1,6 +1,5 @@
 -- `parse::read_by_passes` meets its contract: loaded, grouped by the effective version's rules, and laid out in the caller's buffers. Assumes
 -- nothing.
-use borrow.Author.Rules.{rules}
 use mathlib.Core.Path.{ap, ◌∙◌}
 use mir.{Facts.{to_z-of_z}, Syntax.{w16}, Val.{to_z, of_z}}
 use Rattle.molang.specs.Order.{effective}

@@ -1,7 +1,6 @@
 -- `advance`: the level's turn, and what the driver makes of it.
 use Rattle.grouping.proofs.AdvanceLaws.{advance-can-turn, turned-at, advance-can-descend, advance-can-close, advanced-on}
 use Rattle.grouping.proofs.{AdvanceLaws.{advanced-fail, advanced-enter, advanced-close}}
-use borrow.Author.Rules.{rules}
 use Rattle.grouping.proofs.driver.advance.Goals as goal
 
 pub descend-requires : goal.descend-requires

@@ -1,6 +1,5 @@
 -- `begin`: the pass begins as StartLaws says, arm by arm.
 use Rattle.grouping.proofs.{StartLaws.{begin-can-start, begun-started, begun-right, begun-as}}
-use borrow.Author.Rules.{rules}
 use Rattle.grouping.proofs.driver.begin.Goals as goal
 use borrow.Enum.Refused.{opened}
 

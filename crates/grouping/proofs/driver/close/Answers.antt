@@ -2,7 +2,6 @@
 use mathlib.Core.Path.{◌∙◌}
 use Rattle.grouping.proofs.CloseLaws.{close-can-finish, closed-failed, close-can-give, close-can-move, close-can-pop}
 use Rattle.grouping.proofs.{CloseLaws.{close-can-resume, ended_at, closed-done, closed_on}}
-use borrow.Author.Rules.{rules}
 use Rattle.grouping.proofs.driver.close.Goals as goal
 
 pub give_children-requires : goal.give_children-requires

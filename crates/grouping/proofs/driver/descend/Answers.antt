@@ -3,7 +3,6 @@ use Prim.Native.Nat.{ℕ}
 use mathlib.Core.Path.{sym, subst}
 use Rattle.grouping.specs.Driver.{CanOpen, Opened}
 use Rattle.grouping.proofs.{DescendLaws.{descend-can-push, descend-can-open, descended}}
-use borrow.Author.Rules.{rules}
 use Rattle.grouping.proofs.driver.descend.Goals as goal
 
 pub open-requires : goal.open-requires

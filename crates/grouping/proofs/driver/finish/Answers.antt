@@ -1,7 +1,6 @@
 -- `finish`, arm by arm: the done trees as they stand, or what the level makes of them.
 use native.Mathlib.Omega.{arith}
 use Rattle.grouping.proofs.EndLaws.{gathered-ends, gathering-at, right-ends, finish-within, finish-at, ends_by}
-use borrow.Author.Rules.{rules}
 use Rattle.grouping.proofs.driver.finish.Goals as goal
 use borrow.Enum.Refused.{opened}
 

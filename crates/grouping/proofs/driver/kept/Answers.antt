@@ -1,6 +1,5 @@
 -- `kept`: the item goes to the done ones.
 use Rattle.grouping.proofs.{ResumeLaws.{keep-room, keep-resumed}}
-use borrow.Author.Rules.{rules}
 use Rattle.grouping.proofs.driver.kept.Goals as goal
 
 pub returns : goal.returns

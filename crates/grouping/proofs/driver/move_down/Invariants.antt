@@ -1,7 +1,6 @@
 -- `move_down`: the items before i stand in their new words, those from i on in their old ones still.
 use Prim.Native.Nat.{◌-◌}
-use native.Mathlib.Omega.{arith}
-use Rattle.grouping.proofs.{OutermostLaws.{Moving, move-begins, move-on, move-ends}}
+use Rattle.grouping.proofs.{OutermostLaws.{Moving}}
 use Rattle.grouping.proofs.driver.move_down.Given as goal
 
 abbrev pub invariant-loop-i : goal.invariant-loop-i

@@ -8,7 +8,6 @@ use Rattle.nodes.specs.Children as children
 use Rattle.levels.specs.declared.turns.Pass.{Pass}
 use Rattle.grouping.specs.Driver.{CanOpen, CanBegin}
 use Rattle.grouping.proofs.{StartLaws.{open-can-take}}
-use borrow.Author.Rules.{rules}
 use Rattle.grouping.proofs.driver.open.Goals as goal
 use Rattle.grouping.proofs.driver.open.Lts as lts
 use Rattle.grouping.proofs.driver.open.Tie as tie

@@ -1,6 +1,5 @@
 -- `resume`, arm by arm: the item goes to the done ones, or the level takes it.
 use Rattle.grouping.proofs.ResumeLaws.{right-room, right-resumed, resume-at, resumed-by, array-unlent, keeping_at}
-use borrow.Author.Rules.{rules}
 use Rattle.grouping.proofs.driver.resume.Goals as goal
 use borrow.Enum.Refused.{opened}
 

@@ -1,11 +1,9 @@
 -- `run`: the loop over the driver's turns. Its invariant: what is left to be done has the whole pass's result, and takes fewer turns than
 -- there is fuel.
-use mathlib.Core.Path.{◌≡◌, refl, ◌∙◌}
+use mathlib.Core.Path.{refl, ◌∙◌}
 use native.Mathlib.Omega.{arith}
-use borrow.Author.Rules.{rules}
-use lib.ListN.{length}
 use Rattle.grouping.specs.Driver.{Opened}
-use Rattle.grouping.proofs.RunLaws.{Running, run-can-begin, run-opened, run_holds, running-advances, run-again, ran-done, ran-failed}
+use Rattle.grouping.proofs.RunLaws.{run-can-begin, run-opened, run_holds, running-advances, run-again, ran-done, ran-failed}
 use Rattle.grouping.proofs.{RunLaws.{run-never}}
 use Rattle.grouping.proofs.driver.run.Goals as goal
 use Rattle.grouping.proofs.driver.run.Lts as lts

@@ -1,11 +1,7 @@
 -- `run`: the loop over the driver's turns. Its invariant: what is left to be done has the whole pass's result, and takes fewer turns than
-use mathlib.Core.Path.{◌≡◌, refl, ◌∙◌}
-use native.Mathlib.Omega.{arith}
-use borrow.Author.Rules.{rules}
+use mathlib.Core.Path.{◌≡◌}
 use lib.ListN.{length}
-use Rattle.grouping.specs.Driver.{Opened}
-use Rattle.grouping.proofs.RunLaws.{Running, run-can-begin, run-opened, run_holds, running-advances, run-again, ran-done, ran-failed}
-use Rattle.grouping.proofs.{RunLaws.{run-never}}
+use Rattle.grouping.proofs.RunLaws.{Running}
 use Rattle.grouping.proofs.driver.run.Given as goal
 
 abbrev pub invariant-loop-fuel : goal.invariant-loop-fuel

@@ -1,7 +1,6 @@
 -- `seek`: what `next_token` stops at (GatherLaws), for each of these passes (SeekLaws).
 use Rattle.passes.proofs.GatherLaws.{can-seek, turned-over, turned-enter, token-found, turned-token}
 use Rattle.passes.proofs.SeekLaws.{left-stands, standing, sought-of}
-use borrow.Author.Rules.{rules}
 use Rattle.grouping.proofs.driver.seek.Goals as goal
 
 pub next_token-found-requires : goal.next_token-found-requires

@@ -1,6 +1,5 @@
 -- `step`, arm by arm: the level's turn.
 use mathlib.Core.Path.{sym, subst, ◌∙◌}
-use borrow.Author.Rules.{rules}
 use Rattle.passes.{specs.TokenTurns.{Seeks}, proofs.TurnLaws.{turn_at, turned_by, turn-waiting}, proofs.SeekLaws.{seeks-at}}
 use Rattle.grouping.proofs.driver.step.Goals as goal
 use borrow.Enum.Refused.{opened}

@@ -1,8 +1,6 @@
 -- `token`, arm by arm: the turn is the level's own.
 use Rattle.passes.proofs.SeekLaws.{array-none, level-idle, token-by, token-kept}
-use borrow.Author.Rules.{rules}
 use Rattle.grouping.proofs.driver.token.Goals as goal
-use borrow.Enum.Refused.{opened}
 
 pub returns-in-Calls : goal.returns-in-Calls
 returns-in-Calls c =

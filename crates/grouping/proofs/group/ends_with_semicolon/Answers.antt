@@ -3,7 +3,6 @@ use mathlib.Core.Path.{sym, ◌∙◌}
 use native.Mathlib.Omega.{arith}
 use Rattle.molang.specs.Order.{runs}
 use Rattle.grouping.proofs.FlatOrder.{last-token, last-unused, last-missing, last-semicolon, last-other}
-use borrow.Author.Rules.{rules}
 use Rattle.grouping.proofs.group.ends_with_semicolon.Goals as goal
 
 pub returns-then-n-eq0 : goal.returns-then-n-eq0

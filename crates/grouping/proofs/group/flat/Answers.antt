@@ -1,5 +1,4 @@
 -- `group::flat` meets its contract.
-use borrow.Author.Rules.{rules}
 use Rattle.grouping.proofs.FlatOrder.{group-joins, group-sections, fallen, joined_items, flat-unended, flat-unjoined, flat-sectioned}
 use Rattle.grouping.proofs.group.flat.Goals as goal
 use borrow.Enum.Refused.{opened}

@@ -1,6 +1,5 @@
 -- `group::group` meets its contract.
 use mir.Facts.{to_z-of_z}
-use borrow.Author.Rules.{rules}
 use Rattle.sections.specs.declared.Flat.TheVariants.{Fail, Mismatched, Unclosed}
 use Rattle.grouping.proofs.LevelLaws.{levelled-at, group-ends, group-gives, group-levels, group-done}
 use Rattle.grouping.proofs.group.group.Goals as goal

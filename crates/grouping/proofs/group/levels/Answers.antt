@@ -1,13 +1,9 @@
 -- `group::levels` meets its contract.
-use Prim.Native.Nat.{ℕ, ◌-◌, ◌≤◌}
-use mathlib.Core.Path.{◌≡◌, refl, ◌∙◌}
+use mathlib.Core.Path.{refl, ◌∙◌}
 use native.Mathlib.Omega.{arith}
 use mir.{Facts.{to_z-of_z}, Syntax.{w16}, Val.{to_z, of_z}}
-use borrow.Author.Rules.{rules}
-use lib.ListN.{length}
-use Rattle.order.specs.Ranks.{used_by, rules_at, later, Ranked}
-use Rattle.grouping.specs.Group.{CanLevel}
-use Rattle.grouping.proofs.LevelLaws.{LevelAt, level-start, level-chooses, chosen-as, levelled-at, level-on, level-pointer}
+use Rattle.order.specs.Ranks.{used_by, rules_at}
+use Rattle.grouping.proofs.LevelLaws.{level-start, level-chooses, chosen-as, levelled-at, level-on, level-pointer}
 use Rattle.grouping.proofs.{LevelLaws.{level-fails, level-roots}}
 use Rattle.grouping.proofs.group.levels.Goals as goal
 

@@ -3,7 +3,6 @@ use mathlib.Core.Path.{sym, ◌∙◌}
 use Rattle.molang.specs.Order.{runs}
 use Rattle.ops.proofs.SetLaws.{one-used}
 use Rattle.grouping.proofs.{FlatOrder.{joined-used, joined-unused}}
-use borrow.Author.Rules.{rules}
 use Rattle.grouping.proofs.group.members_if_used.Goals as goal
 
 pub returns-then-contains : goal.returns-then-contains

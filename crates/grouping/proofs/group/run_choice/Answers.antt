@@ -2,7 +2,6 @@
 use mathlib.Core.Path.{sym, ap₂, ◌∙◌}
 use Rattle.ops.specs.Classes.{shares}
 use Rattle.grouping.proofs.GateLaws.{chosen-can-run, chosen-run, chosen-skip, root-within, gate-shut}
-use borrow.Author.Rules.{rules}
 use Rattle.grouping.proofs.group.run_choice.Goals as goal
 
 pub classes_of-here-requires : goal.classes_of-here-requires

@@ -2,7 +2,6 @@
 use mathlib.Core.Path.{sym, ◌∙◌}
 use Rattle.molang.specs.Order.{runs}
 use Rattle.grouping.proofs.{FlatOrder.{sectioned-used, sectioned-unused}}
-use borrow.Author.Rules.{rules}
 use Rattle.grouping.proofs.group.sections_if_used.Goals as goal
 
 pub returns-then-has_some : goal.returns-then-has_some

@@ -1,6 +1,5 @@
 -- `parse::report::extent_of` meets its contract: the words of the linked trees are laid out, and the extent is read from them. Assumes
 -- nothing.
-use borrow.Author.Rules.{rules}
 use native.Mathlib.Omega.{arith}
 use lib.ListN.{length-take}
 use Rattle.parse.proofs.{RootLaws.{measure-emit, measure-few, measured}}

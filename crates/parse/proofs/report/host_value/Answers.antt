@@ -1,6 +1,5 @@
 -- `parse::report::host_value` meets its contract. Assumes nothing.
 use mathlib.Core.Path.{ap}
-use borrow.Author.Rules.{rules}
 use Rattle.parse.proofs.{RecordLaws.{no-host, a-host}}
 use Rattle.parse.proofs.report.host_value.Goals as goal
 

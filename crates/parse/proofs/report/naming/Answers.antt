@@ -1,5 +1,4 @@
 -- `parse::report::naming` meets its contract. Assumes nothing.
-use borrow.Author.Rules.{rules}
 use mathlib.Core.Path.{refl}
 use Rattle.parse.proofs.{RecordLaws.{with_first_lem}}
 use Rattle.parse.proofs.report.naming.Goals as goal

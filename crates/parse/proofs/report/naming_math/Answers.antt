@@ -1,5 +1,4 @@
 -- `parse::report::naming_math` meets its contract. Assumes nothing.
-use borrow.Author.Rules.{rules}
 use Rattle.parse.proofs.{RecordLaws.{with_first_lem}}
 use Rattle.parse.proofs.report.naming_math.Goals as goal
 

@@ -1,5 +1,4 @@
 -- `parse::report::no_roots` meets its contract. Assumes nothing.
-use borrow.Author.Rules.{rules}
 use Prim.Native.Nat.{ℕ}
 use mathlib.Core.{Path.{ap, ◌∙◌}, List.{List}}
 use Rattle.words.specs.Records.{eight_words, laid_at}

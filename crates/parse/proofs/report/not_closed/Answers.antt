@@ -1,5 +1,4 @@
 -- `parse::report::not_closed` meets its contract. Assumes nothing.
-use borrow.Author.Rules.{rules}
 use Rattle.parse.proofs.{RecordLaws.{with_first_lem, closer-read}}
 use Rattle.parse.proofs.report.not_closed.Goals as goal
 

@@ -1,6 +1,5 @@
 -- `parse::report::record_of` meets its contract: each arm is the case of `record_for` that its variant has. Assumes nothing.
 use mathlib.Core.Path.{◌≡◌}
-use borrow.Author.Rules.{rules}
 use Rattle.levels.specs.declared.failure.Failure.{Failure}
 use Rattle.parse.specs.Records.{Named}
 use Rattle.parse.proofs.{RecordLaws.{named-at}}

@@ -1,5 +1,4 @@
 -- `parse::report::report` meets its contract. Assumes nothing.
-use borrow.Author.Rules.{rules}
 use Rattle.parse.proofs.{ReportLaws.{failed-slots, failed-reported}}
 use Rattle.parse.proofs.report.report.Goals as goal
 

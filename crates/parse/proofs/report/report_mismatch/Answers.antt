@@ -1,5 +1,4 @@
 -- `parse::report::report_mismatch` meets its contract: two records, one after the other. Assumes nothing.
-use borrow.Author.Rules.{rules}
 use Rattle.parse.proofs.{ReportLaws.{mismatch-slots, mismatch-reported}}
 use Rattle.parse.proofs.report.report_mismatch.Goals as goal
 

@@ -1,5 +1,4 @@
 -- `parse::report::report_pointer` meets its contract: the failure's record, then message 1. Assumes nothing.
-use borrow.Author.Rules.{rules}
 use Rattle.parse.proofs.{ReportLaws.{pointer-fails, pointer-reported}}
 use Rattle.parse.proofs.report.report_pointer.Goals as goal
 

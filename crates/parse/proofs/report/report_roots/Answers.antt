@@ -1,6 +1,5 @@
 -- `parse::report::report_roots` meets its contract: the first tree's extent, then the last one's, over words whose slots are the same.
 -- Assumes nothing.
-use borrow.Author.Rules.{rules}
 use Prim.Native.Nat.{ℕ}
 use mathlib.Core.{Path.{refl, ap, ◌∙◌}, List.{List}}
 use native.Mathlib.Omega.{arith}

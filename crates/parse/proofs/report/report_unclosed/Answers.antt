@@ -1,5 +1,4 @@
 -- `parse::report::report_unclosed` meets its contract: two records, one after the other. Assumes nothing.
-use borrow.Author.Rules.{rules}
 use Rattle.parse.proofs.{ReportLaws.{unclosed-slots, unclosed-reported}}
 use Rattle.parse.proofs.report.report_unclosed.Goals as goal
 

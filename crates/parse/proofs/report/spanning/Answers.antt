@@ -1,5 +1,4 @@
 -- `parse::report::spanning` meets its contract. Assumes nothing.
-use borrow.Author.Rules.{rules}
 use Rattle.parse.proofs.report.spanning.Goals as goal
 
 pub returns : goal.returns

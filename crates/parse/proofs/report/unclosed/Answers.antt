@@ -1,5 +1,4 @@
 -- `parse::report::unclosed` meets its contract: the record, argument by argument. Assumes nothing.
-use borrow.Author.Rules.{rules}
 use mathlib.Core.Path.{refl}
 use Rattle.parse.proofs.{RecordLaws.{with_first_lem, with-last, closer-read}}
 use Rattle.parse.proofs.report.unclosed.Goals as goal
