@@ -16,8 +16,8 @@ endif
 help:
 	@echo 'make command    builds the command host/target/release/sorbrudder'
 	@echo 'make demo       writes sample archives to target/sample, and checks, compares, lifts, draws and reports on them'
-	@echo 'make install    installs the command with its man page and completions, the programs, the library, its header and its' \
-	    'pkg-config file (PREFIX=/usr/local DESTDIR=)'
+	@echo 'make install    installs the command with its man page and completions, the programs but liftlists, the library, its header' \
+	    'and its pkg-config file (PREFIX=/usr/local DESTDIR=)'
 	@echo 'make uninstall  takes them away again (the same PREFIX and DESTDIR)'
 	@echo 'make library    proves the library and builds it, where something changed; without rt the prebuilt one is used'
 	@echo 'make programs   proves the programs everylist, liftcount, liftlists and treelist and builds them, to target/bin'

@@ -1,5 +1,5 @@
 #!/usr/bin/env bash
-# Installs the command with its man page and completions, the programs, the library, its header and its pkg-config file.
+# Installs the command with its man page and completions, the programs but liftlists, the library, its header and its pkg-config file.
 #   install.sh DESTDIR PREFIX           (`make install`)
 #   install.sh --remove DESTDIR PREFIX  takes all of them away again (`make uninstall`)
 set -eu
@@ -10,7 +10,7 @@ man=share/man/man1/sorbrudder.1
 bash=share/bash-completion/completions/sorbrudder
 zsh=share/zsh/site-functions/_sorbrudder
 fish=share/fish/vendor_completions.d/sorbrudder.fish
-programs="everylist liftcount liftlists treelist"
+programs="everylist liftcount treelist"
 files="bin/sorbrudder $man $bash $zsh $fish"
 for program in $programs; do
     files="$files bin/$program"

@@ -74,7 +74,7 @@ below version 5 every `:` is paired, then every `?` from the left; from 5 on `?`
     let alike = shown(&["versions", "-e", "a + b * c"]);
     assert_eq!(
         alike.lines().count(),
-        7,
+        5,
         "no tree where all read alike: {alike}"
     );
     let part = shown(&["versions", "-e", "x + (a && b || c)", "--at", "5,6"]);
@@ -85,7 +85,7 @@ below version 5 every `:` is paired, then every `?` from the left; from 5 on `?`
 #[test]
 fn versions_says_why_nothing_changes() {
     let last = |list: &str, at: &str| {
-        let text = shown(&["versions", "-e", list, "--at", at]);
+        let text = shown(&["versions", "-e", list, "--at", at, "--why"]);
         text.lines().last().unwrap_or_default().to_owned()
     };
     let none = "Nothing changes: no operator in it is one that these versions pair otherwise.";

@@ -31,6 +31,24 @@ fn the_program_of_the_readme_is_the_example() {
 }
 
 #[test]
+fn every_command_of_the_readme_is_one() {
+    let readme = Path::new(env!("CARGO_MANIFEST_DIR")).join("../README.md");
+    let readme = std::fs::read_to_string(readme).expect("a file");
+    let lines = readme
+        .lines()
+        .filter_map(|line| line.strip_prefix("    sorbrudder "));
+    let mut count = 0;
+    let commands = lines.filter_map(|line| line.split(' ').next());
+    for command in commands.filter(|command| *command != "=") {
+        let mut help = Command::new(env!("CARGO_BIN_EXE_sorbrudder"));
+        let help = help.args([command, "--help"]).output().expect("it runs");
+        assert_eq!(help.status.code(), Some(0), "{command}");
+        count += 1;
+    }
+    assert!(count > 5, "{count}");
+}
+
+#[test]
 fn every_command_of_the_readme_and_the_paths_is_one() {
     let root = Path::new(env!("CARGO_MANIFEST_DIR")).join("..");
     let pages = [

@@ -189,7 +189,7 @@ fn a_prebuilt_library_is_used_without_rt_and_compared_with_it() {
     let folder = std::fs::read_dir(project.folder.join("prebuilt")).expect("a folder");
     let folder = folder.map(|entry| entry.expect("an entry").path()).next();
     let folder = folder.expect("the system's folder");
-    for name in ["everylist", "liftcount", "liftlists", "treelist"] {
+    for name in ["everylist", "liftcount", "treelist"] {
         let prebuilt = folder.join(name);
         let text = std::fs::read_to_string(&prebuilt).expect("a program");
         assert_eq!(text, format!("proved {name}\n"));
@@ -277,7 +277,7 @@ fn installing_puts_everything_under_the_prefix_and_uninstalling_takes_it_away() 
     );
     // All that is there was told, and all of it is taken away again, and nothing else.
     let there = files(&to);
-    assert_eq!(there.len(), 12, "{there:?}");
+    assert_eq!(there.len(), 11, "{there:?}");
     for file in &there {
         let file = file.strip_prefix(&to).expect("under it").display();
         assert!(told(&installed).contains(&format!(" {file}")), "{file}");
@@ -306,10 +306,34 @@ fn installing_without_rt_takes_what_is_prebuilt() {
     let words = [staged.to_str().expect("text"), "/usr"];
     let installed = project.run("tools/install.sh", &words);
     assert!(installed.status.success(), "{}", told(&installed));
-    for name in ["everylist", "liftcount", "liftlists", "treelist"] {
+    for name in ["everylist", "liftcount", "treelist"] {
         let text = std::fs::read_to_string(staged.join("usr/bin").join(name));
         assert_eq!(text.expect("a program"), format!("proved {name}\n"));
     }
+}
+
+#[test]
+fn liftlists_is_built_and_prebuilt_and_not_installed() {
+    let project = Project::new("liftlists");
+    project.with_rt();
+    assert!(project.make(&["prebuilt"]).status.success());
+    let text = |path: &Path| std::fs::read_to_string(path).unwrap_or_default();
+    let built = project.folder.join("target/bin/liftlists");
+    assert_eq!(text(&built), "proved liftlists\n");
+    let prebuilt = files(&project.folder.join("prebuilt"));
+    let prebuilt = prebuilt.iter().find(|file| file.ends_with("liftlists"));
+    assert_eq!(text(prebuilt.expect("a program")), "proved liftlists\n");
+    let check = || project.run("tools/prebuilt.sh", &["--check"]).status;
+    assert!(check().success());
+    std::fs::write(&built, "proved otherwise\n").expect("a file");
+    assert!(!check().success());
+    project.script("host/target/release/sorbrudder", "echo \"says $*\"\n");
+    let staged = project.folder.join("stage");
+    let words = [staged.to_str().expect("text"), "/usr"];
+    let installed = project.run("tools/install.sh", &words);
+    assert!(installed.status.success(), "{}", told(&installed));
+    assert!(staged.join("usr/bin/liftcount").exists());
+    assert!(!staged.join("usr/bin/liftlists").exists());
 }
 
 /// The programs of `prebuilt/`, run as README.md runs them.

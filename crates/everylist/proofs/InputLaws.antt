@@ -1,13 +1,13 @@
 -- The whole of a run: what comes chunk by chunk is the input behind its front, what is kept is kept of the input, and what is handed over
 -- position by position is what is printed for it. Assumes nothing.
-use Prim.Native.Nat.{ℕ, suc, ◌+◌, ◌-◌, ◌%◌, ◌≤◌, ◌<◌}
-use mathlib.Core.{Path.{◌≡◌, refl, ap, sym, ◌∙◌}, Bool.{Bool, true, ◌&&◌}, List.{List, [], ◌++◌, append_assoc, append-nil}}
-use mathlib.Core.Option.{Option, none, some}
+use Prim.Native.Nat.{ℕ, suc, ◌+◌, ◌-◌, ◌%◌, ◌≤◌}
+use mathlib.Core.{Path.{◌≡◌, refl, ap, sym, ◌∙◌}, Bool.{Bool, true, ◌&&◌}, List.{List, ◌++◌, append_assoc, append-nil}}
+use mathlib.Core.Option.{none}
 use native.Mathlib.{Nat.{zero-add}, Omega.{arith}}
-use lib.{ListN.{length, take, drop, replicate, length-append, drop_of_length-le}, Seq.{take_all, take_at, drop_at, length-take-le}}
+use lib.{ListN.{length, take, replicate, length-append, drop_of_length-le}, Seq.{take_all, take_at, drop_at, length-take-le}}
 use Rattle.words.specs.Records.{laid_at}
 use Rattle.listing.{specs.Lists.{words_in}, proofs.ByteLaws.{front-over-zeros}}
-use Rattle.everylist.specs.{declared.read.Rest.{Rest}, EveryList.{all_numbers, printed}, Steps.{Kept, kept, kept_of, text_at, texts_from}}
+use Rattle.everylist.specs.{declared.read.Rest.{Rest}, EveryList.{all_numbers}, Steps.{Kept, kept, kept_of, text_at, texts_from}}
 use Rattle.everylist.specs.Input.{Onward, RestRead, Came, OfInput, Handed, none_yet, one_more, Whole}
 use Rattle.everylist.proofs.{NumberLaws.{fine-chunks}, Prints.{behind, text-early, kept-prints}}
 

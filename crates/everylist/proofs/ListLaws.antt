@@ -14,7 +14,7 @@ use Rattle.text.{specs.Text.{Wrote}, proofs.TextLaws.{wrote_then}}
 use Rattle.own.specs.Own.{reading_of}
 use Rattle.listing.{specs.Rows.{answer_text}, specs.Lists.{list_text}, proofs.AnswerLaws.{list-text}}
 use Rattle.shortlists.specs.ShortLists.{up_to, among, are_letters, each_legal, count_refusal, list_refusal, list_at}
-use Rattle.shortlists.specs.Answers.{Told, found, refused, told, list_told, tokens_given, words_at}
+use Rattle.shortlists.specs.Answers.{found, refused, told, list_told, tokens_given, words_at}
 use Rattle.shortlists.proofs.AlphabetLaws.{alphabet, occurs, legal-at}
 use Rattle.everylist.specs.{EveryList.{head_text, short_text}, Steps.{letters_in, words_text}}
 

@@ -1,6 +1,6 @@
 -- The whole of a run: what came of an input, chunk by chunk, and what was handed to `write`, position by position.
-use Rattle.std.specs.Prelude.{ℕ, ◌+◌, ◌%◌, ◌≤◌, ◌≡◌, Bool, ◌&&◌, List, [], ◌++◌, length, take, drop}
-use Rattle.std.proofs.Math.Option.{none, some}
+use Rattle.std.specs.Prelude.{ℕ, ◌+◌, ◌≤◌, ◌≡◌, Bool, ◌&&◌, List, [], ◌++◌, length, take, drop}
+use Rattle.std.proofs.Math.Option.{some}
 use Rattle.streams.specs.Came.{FullBy}
 use Rattle.listing.specs.Lists.{words_in}
 use Rattle.everylist.specs.declared.read.Rest.{Rest}

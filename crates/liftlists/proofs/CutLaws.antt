@@ -1,11 +1,11 @@
 -- The lifted words of a file, from its front on: which words go through, and where a list is closed. Assumes nothing.
-use Prim.Native.Nat.{ℕ, ◌+◌, ◌/◌, ◌%◌, ◌^◌, ◌≤◌, ◌<◌}
+use Prim.Native.Nat.{ℕ, ◌/◌, ◌%◌, ◌^◌, ◌<◌}
 use mathlib.Core.{Path.{◌≡◌, refl, ap, sym, ◌∙◌}, Bool.{Bool, true, false}, List.{List, [], ◌∷◌, ◌++◌, append_assoc, append-nil}}
 use native.Mathlib.Omega.{arith}
-use lib.{Dec.{eqb, leb}, ListN.{length, length-append}}
+use lib.{Dec.{eqb}, ListN.{length, length-append}}
 use borrow.Author.Tests.{eq-eqb, ne_eqb, eqb-true, lt-leb}
 use Rattle.molang.specs.{FirstFailure.{must, first_of}, Words.{kind_of}, Parse.{most_tokens}}
-use Rattle.molang.specs.Lift.{Engine, lift_refusal, lift_of, behind, or_behind}
+use Rattle.molang.specs.Lift.{Engine, lift_refusal, lift_of, or_behind}
 use Rattle.liftlists.specs.LiftedFile.{opens_list, is_version_word, FileList, file_list, all_words, file_cut, joined_lists, engine_of, carried_by, carried}
 use Rattle.liftlists.specs.{LiftedFile.{carried_all, lifted_words}, Steps.{IsBehind, OpenNone, none_kept, one_kept}}
 

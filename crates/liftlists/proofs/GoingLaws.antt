@@ -1,8 +1,8 @@
 -- The run's places, one behind the other, and what is handed over at each. Assumes nothing.
-use Prim.Native.Nat.{ℕ, suc, ◌+◌, ◌*◌, ◌-◌, ◌^◌, ◌≤◌, ◌<◌}
-use mathlib.Core.{Path.{◌≡◌, refl, ap, sym, ◌∙◌}, Bool.{true, false}, List.{List, [], ◌∷◌, ◌++◌, append_assoc, append-nil}}
+use Prim.Native.Nat.{ℕ, suc, ◌+◌, ◌*◌, ◌^◌, ◌≤◌, ◌<◌}
+use mathlib.Core.{Path.{◌≡◌, refl, ap, sym, ◌∙◌}, List.{List, [], ◌∷◌, ◌++◌, append_assoc, append-nil}}
 use native.Mathlib.Omega.{arith}
-use lib.{ListN.{length, take, drop, get_or, length-take}, Seq.{take-add, drop-cons}}
+use lib.{ListN.{length, take, get_or, length-take}, Seq.{take-add, drop-cons}}
 use borrow.Author.Tests.{lt-ltb, le-ltb}
 use Rattle.listing.specs.Lists.{words_in}
 use Rattle.text.{specs.Text.{Wrote}, proofs.TextLaws.{wrote_then}}

@@ -1,8 +1,8 @@
 -- What the lift tells of a list that it has room for is what becomes of the list. Assumes nothing.
 use Prim.Native.Nat.{ℕ, ◌+◌, ◌*◌, ◌/◌, ◌%◌, ◌≤◌, ◌<◌, min}
-use mathlib.Core.{Path.{◌≡◌, refl, ap, sym, ◌∙◌}, List.{List, ◌∷◌}, Option.{Option, none, some}}
+use mathlib.Core.{Path.{◌≡◌, refl, sym, ◌∙◌}, List.{List, ◌∷◌}, Option.{Option, none, some}}
 use native.Mathlib.Omega.{arith}
-use lib.ListN.{length, replicate, length-replicate}
+use lib.ListN.{length, length-replicate}
 use borrow.Author.Tests.{eq-eqb, le-leb, lt-ltb}
 use Rattle.molang.specs.{FirstFailure.{must, first_of}, Words.{Refusal}, Parse.{most_tokens, length_rows}, Lift.{lift_of, same, lifted}}
 use Rattle.lift.specs.Lifting.{LiftCall, room_refusal, LiftTold, IsLift, of_lengths, of_output, is_same, is_lifted, is_messages, is_behind}

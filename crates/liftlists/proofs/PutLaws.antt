@@ -1,8 +1,8 @@
 -- The bytes of words, laid one behind the other. Assumes nothing.
-use Prim.Native.Nat.{ℕ, suc, ◌+◌, ◌*◌, ◌≤◌, ◌<◌}
+use Prim.Native.Nat.{ℕ, ◌+◌, ◌*◌, ◌≤◌, ◌<◌}
 use mathlib.Core.{Path.{◌≡◌, refl, ap, sym, ◌∙◌}, List.{List, [], ◌∷◌, ◌++◌, append_assoc}}
 use native.Mathlib.{Numerals.{add-one}, Omega.{arith}}
-use lib.{ListN.{length, take, drop, get_or, length-append}, Seq.{take-suc, take_all, take_at, length-take-le, drop-drop}}
+use lib.{ListN.{length, take, drop, get_or, length-append}, Seq.{take-suc, take_all, take_at, length-take-le}}
 use Rattle.molang.specs.Parse.{in_front}
 use Rattle.words.specs.Records.{laid_at}
 use Rattle.text.{specs.Text.{Wrote}, proofs.TextLaws.{wrote_then}}

@@ -1,13 +1,13 @@
 -- A word of the file, by the cases of the code. Assumes nothing.
-use Prim.Native.Nat.{ℕ, suc, ◌+◌, ◌*◌, ◌≤◌, ◌<◌}
-use mathlib.Core.{Path.{◌≡◌, refl, ap, sym, ◌∙◌}, Bool.{true, false}, List.{List, [], ◌∷◌, ◌++◌, append_assoc}}
+use Prim.Native.Nat.{ℕ, ◌+◌, ◌≤◌, ◌<◌}
+use mathlib.Core.{Path.{◌≡◌, refl, ap, sym, ◌∙◌}, Bool.{false}, List.{List, [], ◌∷◌, ◌++◌, append_assoc}}
 use native.Mathlib.{Numerals.{add-one}, Omega.{arith}}
 use lib.{ListN.{length, take, set, length-append}, Seq.{take-suc-set, take_all, append_snoc}}
 use borrow.Author.Tests.{eq-eqb, ne_eqb, le-ltb}
 use Rattle.molang.specs.Words.{kind_of}
 use Rattle.text.{specs.Text.{Wrote}, proofs.TextLaws.{wrote_none, wrote_then}}
 use Rattle.liftlists.specs.{declared.step.Stage.TheVariants.{Passing, InList}, declared.step.Step.{Step}}
-use Rattle.liftlists.specs.LiftedFile.{opens_list, is_version_word, file_list, all_words, bytes_of, carried, lifted_words}
+use Rattle.liftlists.specs.LiftedFile.{opens_list, is_version_word, file_list, all_words, bytes_of, carried}
 use Rattle.liftlists.specs.Steps.{OpenNone, none_kept, ListHeld, Took}
 use Rattle.liftlists.proofs.{PutLaws.{bytes-append, bytes-length}, CutLaws.{kept_more, version-opens, passes_on, closes-on, long-on}}
 

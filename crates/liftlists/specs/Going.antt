@@ -2,7 +2,6 @@
 use Rattle.std.specs.Prelude.{ℕ, ◌+◌, ◌≤◌, ◌≡◌, List, [], ◌++◌, length, take}
 use Rattle.streams.specs.Came.{FullBy}
 use Rattle.listing.specs.Lists.{words_in}
-use Rattle.liftlists.specs.declared.step.Stage.{Stage}
 use Rattle.liftlists.specs.declared.feed.Room.{Room}
 use Rattle.liftlists.specs.declared.feed.Room.TheVariants.{At, Failed as Room-as-Failed}
 use Rattle.liftlists.specs.declared.feed.Fed.{Fed}

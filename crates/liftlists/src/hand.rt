@@ -1,4 +1,4 @@
-// What goes to standard output and standard error. Leans on io; specs/Going says what is handed over.
+// What goes to standard output and standard error, by the handle that the caller passes. specs/Going says what is handed over.
 ghost use Rattle.liftlists.specs.Going.{IsNextPiece, IsLastPiece};
 
 // A line on standard error; nothing more is written.

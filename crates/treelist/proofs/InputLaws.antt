@@ -1,7 +1,7 @@
 -- The whole of a run: what comes chunk by chunk is the input behind its front, and what is printed of the front over zeros is what is
 -- printed for the input. Assumes nothing.
 use Prim.Native.Nat.{ℕ, ◌+◌, ◌≤◌}
-use mathlib.Core.{Path.{◌≡◌, ap, sym, ◌∙◌}, List.{List, ◌++◌}}
+use mathlib.Core.{Path.{◌≡◌, sym, ◌∙◌}, List.{List, ◌++◌}}
 use native.Mathlib.Omega.{arith}
 use lib.{ListN.{length, take, replicate, length-append}, Seq.{take_all, take_at, length-take-le}}
 use Rattle.words.specs.Records.{laid_at}

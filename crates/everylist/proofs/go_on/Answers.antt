@@ -1,6 +1,5 @@
 -- `everylist::go_on` is safe, and answers the front with what came behind it. Assumes nothing.
 use native.Mathlib.Omega.{arith}
-use borrow.Author.Rules.{rules}
 use Rattle.everylist.proofs.{InputLaws.{long-input}}
 use Rattle.everylist.proofs.go_on.Goals as goal
 

@@ -1,12 +1,11 @@
 -- `everylist::print` meets its contract: the texts at the positions are handed over one after another, up to the first position that has
 -- none. Each stands at a position below 299,593; the measure is the number of positions that are left. Assumes nothing.
-use Prim.Native.Nat.{◌-◌, ◌≤◌, ◌<◌}
-use mathlib.Core.{Path.{◌≡◌, sym}, Option.{some}}
+use mathlib.Core.{Path.{sym}}
 use native.Mathlib.Omega.{arith}
-use lib.{ListN.{length, take}, Seq.{length-take-le}}
+use lib.{Seq.{length-take-le}}
 use borrow.Author.Rules.{rules}
-use Rattle.everylist.specs.{Steps.{Kept, kept, text_at}, Input.{none_yet, one_more}}
-use Rattle.everylist.proofs.{InputLaws.{Sofar, all-printed}, StepLaws.{stepped-room, stepped-text, stepped-done}}
+use Rattle.everylist.specs.{Steps.{kept, text_at}, Input.{none_yet, one_more}}
+use Rattle.everylist.proofs.{InputLaws.{all-printed}, StepLaws.{stepped-room, stepped-text, stepped-done}}
 use Rattle.everylist.proofs.{Prints.{text-early}}
 use Rattle.everylist.proofs.print.Goals as goal
 

@@ -1,6 +1,5 @@
 -- `liftcount::answer` is safe: what it hands over is what is printed for the input. Assumes nothing.
 use mathlib.Core.Path.{◌∙◌}
-use borrow.Author.Rules.{rules}
 use Rattle.text.proofs.TextLaws.{wrote-front}
 use Rattle.liftcount.proofs.{Stands.{came-prints}}
 use Rattle.liftcount.proofs.answer.Goals as goal

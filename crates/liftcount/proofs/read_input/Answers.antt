@@ -1,12 +1,10 @@
 -- `liftcount::read_input` meets its contract. The invariant: the run is where the bytes that came lead to. The measure is the number of
 -- turns that are left. Assumes nothing.
-use Prim.Native.Nat.{ℕ, ◌+◌, ◌*◌, ◌≤◌}
-use mathlib.Core.{Path.{◌≡◌, refl, ap, sym, ◌∙◌}, List.{List, [], ◌++◌, append-nil}}
+use mathlib.Core.{Path.{ap, sym, ◌∙◌}, List.{[], ◌++◌, append-nil}}
 use native.Mathlib.Omega.{arith}
-use lib.{ListN.{length, take, length-append}, Seq.{length-take-le}}
-use borrow.Author.Rules.{rules}
-use Rattle.liftcount.specs.{Running.{State, state_of, fed, started}, Steps.{Reached}}
-use Rattle.liftcount.proofs.InputLaws.{Sofar, on, longer}
+use lib.{ListN.{take}}
+use Rattle.liftcount.specs.{Running.{fed, started}}
+use Rattle.liftcount.proofs.InputLaws.{on, longer}
 use Rattle.liftcount.proofs.read_input.Goals as goal
 
 pub loop-turns-init : goal.loop-turns-init
@@ -23,8 +21,7 @@ returns-in_default g c =
 pub loop-turns-preserved : goal.loop-turns-preserved
 loop-turns-preserved g c =
     let at = c.loop-turns in
-    let chunk = take c.read_on-next.result.last c.read_on-next.new.space in
-    (
+    let chunk = take c.read_on-next.result.last c.read_on-next.new.space in (
       c.read_on-next.auto.list ∙ at.invariant.0,
       c.read_on-next.auto.space ∙ at.invariant.1,
       record { came = at.invariant.2.came ++ chunk; few = omega (arith, longer c.loop-turns.invariant.2.came c.read_on-next.new.space c.read_on-next.result.last c.read_on-next.ensures.last_in_bounds (c.read_on-next.auto.space ∙ c.loop-turns.invariant.1), at.invariant.2.few); is = on _ _ _ _ c.loop-turns.invariant.2 (take c.read_on-next.result.last c.read_on-next.new.space) c.read_on-next.ensures.list_after },

@@ -1,12 +1,11 @@
 -- `liftlists::carry` hands over what the chunks give, one after the other. The measure is the number of turns that are left. Assumes
 -- nothing.
-use Prim.Native.Nat.{ℕ, ◌-◌, ◌≤◌}
-use mathlib.Core.{Path.{◌≡◌, sym, ◌∙◌}, List.{List}}
+use Prim.Native.Nat.{◌-◌, ◌≤◌}
+use mathlib.Core.{Path.{sym, ◌∙◌}}
 use native.Mathlib.Omega.{arith}
-use lib.ListN.{length, take}
-use Rattle.liftlists.specs.{declared.step.Stage.{Stage}, Steps.{LiftScratch, Fine, held_in}, Going.{FileGoes, yet, PlaceReached, file_from}}
+use lib.ListN.{take}
+use Rattle.liftlists.specs.{Steps.{Fine, held_in}, Going.{FileGoes, yet}}
 use Rattle.liftlists.proofs.{GoingLaws.{reached_then, few-taken}, RunLaws.{after}}
-use borrow.Author.Rules.{rules}
 use Rattle.liftlists.proofs.carry.Goals as goal
 
 pub loop-turns-init : goal.loop-turns-init
@@ -60,19 +59,23 @@ slice_bounds-finish-end g c = omega (arith, c.read_on-next.ensures.whole, c.read
 pub finish-requires : goal.finish-requires
 finish-requires g c =
     let onward : Fine c.in-On.then c.read_on-next.new.list × (c.in-On.laid ≤ 147463)
-        × FileGoes (yet c.args.to (held_in c.loop-turns.stage c.loop-turns.list) c.loop-turns.out c.loop-turns.at)
-        (take c.read_on-next.result.whole c.read_on-next.new.space) (yet c.args.to (held_in c.in-On.then c.read_on-next.new.list) c.read_on-next.new.out c.in-On.laid) =
+    × FileGoes (yet c.args.to (held_in c.loop-turns.stage c.loop-turns.list) c.loop-turns.out c.loop-turns.at)
+    (take c.read_on-next.result.whole c.read_on-next.new.space) (yet c.args.to (held_in c.in-On.then c.read_on-next.new.list) c.read_on-next.new.out c.in-On.laid) =
     rw c.in-On.is at c.read_on-next.ensures.fed_to
     in
     let next = after c.loop-turns.invariant c.read_on-next.auto.list c.read_on-next.auto.space c.read_on-next.auto.out c.read_on-next.auto.tree c.read_on-next.auto.again c.read_on-next.auto.work c.read_on-next.auto.output in
     let r = c.read_on-next.result in
-    record { list_len = (
+    record {
+      list_len = (
         next.lists,
         c.requires.list_len.3,
         onward.1,
         next.outs,
         few-taken (r.last - r.whole) _ (omega (arith, c.read_on-next.ensures.whole, c.read_on-next.ensures.most)),
-      ); lift_scratch = next.scratch; fine = (onward.0, reached_then c.loop-turns.invariant.reached onward.2) }
+      );
+      lift_scratch = next.scratch;
+      fine = (onward.0, reached_then c.loop-turns.invariant.reached onward.2);
+    }
 
 pub shape_of-list-in_default-end : goal.shape_of-list-in_default-end
 shape_of-list-in_default-end g c = (after c.loop-turns.invariant c.read_on-next.auto.list c.read_on-next.auto.space c.read_on-next.auto.out c.read_on-next.auto.tree c.read_on-next.auto.again c.read_on-next.auto.work c.read_on-next.auto.output).lists ∙ sym c.requires.list_len.0
@@ -101,8 +104,8 @@ loop-turns-smaller g c = omega (arith, c.loop-turns-test.true)
 pub loop-turns-preserved : goal.loop-turns-preserved
 loop-turns-preserved g c =
     let onward : Fine c.in-On.then c.read_on-next.new.list × (c.in-On.laid ≤ 147463)
-        × FileGoes (yet c.args.to (held_in c.loop-turns.stage c.loop-turns.list) c.loop-turns.out c.loop-turns.at)
-        (take c.read_on-next.result.whole c.read_on-next.new.space) (yet c.args.to (held_in c.in-On.then c.read_on-next.new.list) c.read_on-next.new.out c.in-On.laid) =
+    × FileGoes (yet c.args.to (held_in c.loop-turns.stage c.loop-turns.list) c.loop-turns.out c.loop-turns.at)
+    (take c.read_on-next.result.whole c.read_on-next.new.space) (yet c.args.to (held_in c.in-On.then c.read_on-next.new.list) c.read_on-next.new.out c.in-On.laid) =
     rw c.in-On.is at c.read_on-next.ensures.fed_to
     in
     let next = after c.loop-turns.invariant c.read_on-next.auto.list c.read_on-next.auto.space c.read_on-next.auto.out c.read_on-next.auto.tree c.read_on-next.auto.again c.read_on-next.auto.work c.read_on-next.auto.output in

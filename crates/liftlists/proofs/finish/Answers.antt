@@ -1,10 +1,7 @@
 -- `liftlists::finish` hands over the last bytes of the lifted file. Assumes nothing.
-use mathlib.Core.Path.{sym}
 use native.Mathlib.Omega.{arith}
-use lib.Seq.{length-take-le}
 use Rattle.liftlists.specs.Steps.{held_in}
 use Rattle.liftlists.proofs.{GoingLaws.{ends_last}}
-use borrow.Author.Rules.{rules}
 use Rattle.liftlists.proofs.finish.Goals as goal
 
 pub close_last-closed-requires : goal.close_last-closed-requires

@@ -1,9 +1,7 @@
 -- `liftlists::read_on` meets its contract. Assumes nothing.
 use Prim.Native.Nat.{◌*◌, ◌/◌}
-use mathlib.Core.Path.{sym}
 use native.Mathlib.Omega.{arith}
 use lib.Seq.{length-take-le}
-use borrow.Author.Rules.{rules}
 use Rattle.liftlists.proofs.read_on.Goals as goal
 
 pub feed-fed-requires : goal.feed-fed-requires

@@ -1,6 +1,5 @@
 -- `lines::line_end` meets its contract: the index lies in the text. Assumes nothing.
 use Prim.Native.Nat.{◌-◌, ◌≤◌}
-use native.Mathlib.Omega.{arith}
 use lib.ListN.{length}
 use Rattle.lines.proofs.line_end.Given as goal
 

@@ -2,7 +2,6 @@
 use mathlib.Core.Path.{ap, ◌∙◌}
 use native.Mathlib.Omega.{arith}
 use lib.ListN.{length, length-take}
-use borrow.Author.Rules.{rules}
 use Rattle.text.proofs.TextLaws.{wrote-front}
 use Rattle.treelist.proofs.{InputLaws.{front-prints}}
 use Rattle.treelist.proofs.answer_input.Goals as goal

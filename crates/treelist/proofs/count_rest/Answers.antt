@@ -1,11 +1,7 @@
 -- `treelist::count_rest` meets its contract: the bytes of the chunks are counted. The measure is the number of turns that are left. Assumes
 -- nothing.
-use Prim.Native.Nat.{◌+◌, ◌*◌, ◌≤◌}
-use mathlib.Core.{Path.{◌≡◌, refl, sym, ◌∙◌}, List.{[]}}
+use mathlib.Core.{Path.{refl, sym, ◌∙◌}, List.{[]}}
 use native.Mathlib.Omega.{arith}
-use lib.ListN.{length}
-use borrow.Author.Rules.{rules}
-use Rattle.treelist.specs.Input.{RestRead}
 use Rattle.treelist.proofs.{InputLaws.{rest-on}}
 use Rattle.treelist.proofs.count_rest.Goals as goal
 

@@ -1,11 +1,8 @@
 -- `treelist::count_rest` meets its contract: the bytes of the chunks are counted. The measure is the number of turns that are left. Assumes
 use Prim.Native.Nat.{◌+◌, ◌*◌, ◌≤◌}
-use mathlib.Core.{Path.{◌≡◌, refl, sym, ◌∙◌}, List.{[]}}
-use native.Mathlib.Omega.{arith}
+use mathlib.Core.{Path.{◌≡◌}}
 use lib.ListN.{length}
-use borrow.Author.Rules.{rules}
 use Rattle.treelist.specs.Input.{RestRead}
-use Rattle.treelist.proofs.{InputLaws.{rest-on}}
 use Rattle.treelist.proofs.count_rest.Given as goal
 
 abbrev pub invariant-loop-turns : goal.invariant-loop-turns

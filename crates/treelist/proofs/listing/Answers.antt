@@ -16,5 +16,8 @@ pub returns : goal.returns
 returns c =
     let answered = c.answer-answered.ensures in
     let put = c.put_answer.ensures in
-    record { prefix_len = (put.upper_bound, sym (length-take-le _ _ put.upper_bound)); wrote = rw (listed c.args.bytes c.args.front.now c.words_of.new.words _ _ _ c.words_of.ensures answered.result_value
-          answered.tree_after answered.messages_after) at put.wrote }
+    record {
+      prefix_len = (put.upper_bound, sym (length-take-le _ _ put.upper_bound));
+      wrote = rw (listed c.args.bytes c.args.front.now c.words_of.new.words _ _ _ c.words_of.ensures answered.result_value
+          answered.tree_after answered.messages_after) at put.wrote;
+    }

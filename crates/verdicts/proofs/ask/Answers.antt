@@ -1,6 +1,5 @@
 -- `verdicts::ask` meets its contract: the words that were laid, and the mark. Assumes nothing.
 use native.Mathlib.Omega.{arith}
-use borrow.Author.Rules.{rules}
 use Rattle.verdicts.specs.Verdicts.{asked_verdict}
 use Rattle.verdicts.proofs.{VerdictLaws.{asked-words}}
 use Rattle.verdicts.proofs.ask.Goals as goal

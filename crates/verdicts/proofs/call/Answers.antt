@@ -1,5 +1,5 @@
 -- `verdicts::call` meets its contract: the mark of a tree to be written, and any other. Assumes nothing.
-use borrow.Author.{Rules.{rules}, Tests.{eq-eqb, ne_eqb}}
+use borrow.Author.{Tests.{eq-eqb, ne_eqb}}
 use Rattle.molang.specs.Lines.{write_mark}
 use Rattle.verdicts.specs.Verdicts.{words_verdict}
 use Rattle.verdicts.proofs.call.Goals as goal

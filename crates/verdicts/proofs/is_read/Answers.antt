@@ -1,5 +1,4 @@
 -- `verdicts::is_read` meets its contract: each case of the answer. Assumes nothing.
-use borrow.Author.Rules.{rules}
 use Rattle.verdicts.specs.Verdicts.{is_read}
 use Rattle.verdicts.proofs.is_read.Goals as goal
 

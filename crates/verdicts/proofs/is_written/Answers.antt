@@ -1,5 +1,4 @@
 -- `verdicts::is_written` meets its contract: each case of the answer. Assumes nothing.
-use borrow.Author.Rules.{rules}
 use Rattle.verdicts.specs.Verdicts.{is_written}
 use Rattle.verdicts.proofs.is_written.Goals as goal
 

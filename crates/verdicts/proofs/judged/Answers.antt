@@ -1,5 +1,4 @@
 -- `verdicts::judged` meets its contract: both are what the line says or not. Assumes nothing.
-use borrow.Author.Rules.{rules}
 use Rattle.verdicts.proofs.judged.Goals as goal
 
 pub returns : goal.returns

@@ -1,12 +1,7 @@
 -- `verdicts::read_at` meets its contract: each turn reads at one version, and those that are left fall. Assumes nothing.
 use Prim.Native.Nat.{◌+◌, ◌-◌}
-use mathlib.Core.Path.{◌≡◌, refl, sym, ◌∙◌}
-use native.Mathlib.Omega.{arith}
-use borrow.Author.Rules.{rules}
-use mir.{Syntax.{w16}, Facts.{to_z-of_z}}
-use Rattle.molang.specs.Lines.{version_of}
-use Rattle.verdicts.specs.Verdicts.{difference_of, read_verdict, fresh_call, from_version, at_versions}
-use Rattle.verdicts.proofs.{VerdictLaws.{found-same, found-other, none_left}}
+use mathlib.Core.Path.{◌≡◌}
+use Rattle.verdicts.specs.Verdicts.{from_version, at_versions}
 use Rattle.verdicts.proofs.read_at.Given as goal
 
 abbrev pub invariant-loop-bits : goal.invariant-loop-bits

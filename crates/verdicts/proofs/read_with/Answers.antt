@@ -1,6 +1,5 @@
 -- `verdicts::read_with` meets its contract: what the reading told and left is the definition's. Assumes nothing.
 use mathlib.Core.Path.{◌∙◌}
-use borrow.Author.Rules.{rules}
 use mir.Facts.{to_z-of_z}
 use Rattle.verdicts.proofs.{VerdictLaws.{read-judged}}
 use Rattle.verdicts.proofs.read_with.Goals as goal

@@ -1,7 +1,6 @@
 -- `verdicts::run_line` meets its contract: a line of no numbers, and the two parts of any other. Assumes nothing.
 use mathlib.Core.Path.{◌∙◌}
 use native.Mathlib.Omega.{arith}
-use borrow.Author.Rules.{rules}
 use Rattle.table.specs.Marked.{second_at}
 use Rattle.verdicts.proofs.{VerdictLaws.{no_line, line-parts}}
 use Rattle.verdicts.proofs.run_line.Goals as goal

@@ -2,7 +2,6 @@
 use Prim.Native.Nat.{◌*◌, ◌/◌}
 use mathlib.Core.Path.{◌∙◌}
 use native.Mathlib.Omega.{arith}
-use borrow.Author.Rules.{rules}
 use lib.ListN.{length}
 use Rattle.verdicts.proofs.{VerdictLaws.{part, write-fresh}}
 use Rattle.verdicts.proofs.write_tree.Goals as goal

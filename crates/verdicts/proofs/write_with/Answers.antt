@@ -1,6 +1,5 @@
 -- `verdicts::write_with` meets its contract: what the writing told and left is the definition's. Assumes nothing.
 use mathlib.Core.Path.{◌∙◌}
-use borrow.Author.Rules.{rules}
 use Rattle.verdicts.proofs.{VerdictLaws.{write-judged}}
 use Rattle.verdicts.proofs.write_with.Goals as goal
 

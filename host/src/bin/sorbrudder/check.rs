@@ -52,6 +52,19 @@ pub fn note_words<T>(input: &Input, teller: &mut Teller<T>) {
     }
 }
 
+/// What was read of a damaged file, on a line of its own.
+pub fn note_read<T>(
+    file: &Path,
+    read: &Result<(), Failure>,
+    lists: u64,
+    told: &str,
+    teller: &mut Teller<T>,
+) {
+    if lists > 0 && matches!(read, Err(Failure::Damaged(_))) {
+        teller.note(format!("{}: read of it: {told}", escape::path(file)));
+    }
+}
+
 /// Reads lists at their own versions.
 struct Check {
     limit: Limit,
@@ -163,13 +176,8 @@ fn check_file(
         teller.text(&text);
         teller.open()
     });
-    match read {
-        Err(Failure::Damaged(why)) if sum.lists > 0 => Err(Failure::Damaged(format!(
-            "{why}; read of it: {}",
-            sum.told()
-        ))),
-        read => read.map(|()| sum),
-    }
+    note_read(file, &read, sum.lists, &sum.told(), teller);
+    read.map(|()| sum)
 }
 
 /// Whether a list was turned back and not read.

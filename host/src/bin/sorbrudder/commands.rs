@@ -378,6 +378,10 @@ pub const COMMANDS: &[Command] = &[
             args::value("--at", "V,V..", "the versions; else 4,5,6"),
             SOURCE,
             args::flag(
+                "--why",
+                "where all versions read it alike, a last line that says why",
+            ),
+            args::flag(
                 "--json",
                 "a line of JSON for every version: version, result, tree, bracketed",
             ),

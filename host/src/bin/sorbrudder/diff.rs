@@ -2,7 +2,7 @@
 
 use crate::args::Args;
 use crate::bracketed;
-use crate::check::{is_refused, note_words};
+use crate::check::{is_refused, note_read, note_words};
 use crate::failure::{Failure, Status};
 use crate::helpers::{Helpers, Task};
 use crate::input::{Batch, Input, Listed};
@@ -161,13 +161,8 @@ fn diff_file(
         teller.text(&text);
         teller.open()
     });
-    match read {
-        Err(Failure::Damaged(why)) if sum.lists > 0 => Err(Failure::Damaged(format!(
-            "{why}; read of it: {}",
-            sum.told()
-        ))),
-        read => read.map(|()| sum),
-    }
+    note_read(file, &read, sum.lists, &sum.told(), teller);
+    read.map(|()| sum)
 }
 
 /// The line about a list as its own version and another read it.

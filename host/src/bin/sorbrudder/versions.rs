@@ -36,7 +36,7 @@ pub fn run(args: &Args) -> Result<Status, Failure> {
             .map(|reading| as_json(reading, &one.source))
             .collect()
     } else {
-        as_text(&readings, &one)
+        as_text(&readings, &one, args.has("--why"))
     };
     output::print(&text)?;
     let is_alike = readings
@@ -75,7 +75,7 @@ fn as_json(reading: &Reading, source: &str) -> String {
     object.done() + "\n"
 }
 
-fn as_text(readings: &[Reading], one: &OneList) -> String {
+fn as_text(readings: &[Reading], one: &OneList, says_why: bool) -> String {
     let source = &one.source;
     let mut text = format!("{}\n\n", one.shown());
     for reading in readings {
@@ -95,7 +95,7 @@ fn as_text(readings: &[Reading], one: &OneList) -> String {
         }
         text.extend(rules.iter().map(|rule| format!("\n{rule}\n")));
     }
-    if let Some(why) = why_alike(readings, one) {
+    if says_why && let Some(why) = why_alike(readings, one) {
         text += &format!("\n{}\n", why.text());
     }
     text

@@ -1,9 +1,6 @@
 -- `everylist::kept::all_numbers` meets its contract: the words from i on decide. Assumes nothing.
-use Prim.Native.Nat.{◌-◌, ◌≤◌}
-use mathlib.Core.Path.{◌≡◌, refl}
+use mathlib.Core.Path.{refl}
 use native.Mathlib.Omega.{arith}
-use lib.ListN.{length, drop}
-use Rattle.everylist.specs.EveryList.{all_numbers}
 use Rattle.everylist.proofs.{NumberLaws.{number-on, number-off, numbers-all}}
 use Rattle.everylist.proofs.kept.all_numbers.Goals as goal
 

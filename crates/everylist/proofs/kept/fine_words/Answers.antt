@@ -1,10 +1,7 @@
 -- `everylist::kept::fine_words` meets its contract: the words from i on decide. Assumes nothing.
-use Prim.Native.Nat.{◌-◌, ◌/◌, ◌≤◌}
-use mathlib.Core.Path.{◌≡◌, refl, sym, ◌∙◌}
+use mathlib.Core.Path.{refl, sym, ◌∙◌}
 use native.Mathlib.Omega.{arith}
-use lib.ListN.{length, drop}
 use Rattle.listing.{specs.Lists.{words_in}, proofs.ByteLaws.{words-at}}
-use Rattle.everylist.specs.EveryList.{all_numbers}
 use Rattle.everylist.proofs.{PartLaws.{words_count}, NumberLaws.{number-on, number-off, numbers-all}}
 use Rattle.everylist.proofs.kept.fine_words.Goals as goal
 

@@ -1,12 +1,11 @@
 -- `everylist::kept::kept_fault` meets its contract: the tests in the definition's order. Assumes nothing.
-use Prim.Native.Nat.{◌-◌, ◌/◌}
-use mathlib.Core.{Path.{◌≡◌, ap, sym, ◌∙◌}, Option.{Option, none, some}}
+use Prim.Native.Nat.{◌/◌}
+use mathlib.Core.{Path.{◌≡◌, ap, sym, ◌∙◌}, Option.{none, some}}
 use native.Mathlib.Omega.{arith}
-use lib.ListN.{take, drop, length-take}
-use borrow.Author.{Tests.{not-true, not-false}, Rules.{rules}}
-use Rattle.molang.specs.Words.{Refusal, row}
+use lib.ListN.{take, length-take}
+use Rattle.molang.specs.Words.{row}
 use Rattle.shortlists.{specs.ShortLists.{count_refusal}, specs.Answers.{counted_of}, proofs.EntryLaws.{counts-told}}
-use Rattle.everylist.specs.{EveryList.{all_numbers}, Steps.{kept, kept_fault}}
+use Rattle.everylist.specs.{EveryList.{all_numbers}}
 use Rattle.everylist.proofs.KeptLaws.{front_same, letters-same, not-whole, too_short, no_number, not-fine, counted-so, count-refused}
 use Rattle.everylist.proofs.kept.kept_fault.Goals as goal
 

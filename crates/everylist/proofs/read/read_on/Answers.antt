@@ -1,6 +1,5 @@
 -- `everylist::read::read_on` meets its contract: the chunk is counted, and its words are looked at. Assumes nothing.
-use mathlib.Core.{Path.{◌≡◌, refl, ap, sym, ◌∙◌}, Bool.{Bool, ◌&&◌}}
-use borrow.Author.Rules.{rules}
+use mathlib.Core.{Path.{refl, ap, sym, ◌∙◌}, Bool.{Bool, ◌&&◌}}
 use lib.ListN.{take}
 use Rattle.listing.specs.Lists.{words_in}
 use Rattle.everylist.specs.EveryList.{all_numbers}

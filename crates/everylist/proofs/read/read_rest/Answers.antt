@@ -1,12 +1,9 @@
 -- `everylist::read::read_rest` meets its contract. The invariant: what came so far is whole words, since every chunk filled the space. The
 -- measure is the number of turns that are left. Assumes nothing.
-use Prim.Native.Nat.{◌+◌, ◌*◌, ◌%◌, ◌≤◌}
-use mathlib.Core.{Path.{◌≡◌, refl, sym, ◌∙◌}, List.{[]}}
+use mathlib.Core.{Path.{refl, sym, ◌∙◌}, List.{[]}}
 use native.Mathlib.Omega.{arith}
-use lib.ListN.{length}
-use borrow.Author.Rules.{rules}
 use Rattle.listing.specs.Lists.{words_in}
-use Rattle.everylist.specs.{EveryList.{all_numbers}, Input.{RestRead}}
+use Rattle.everylist.specs.{EveryList.{all_numbers}}
 use Rattle.everylist.proofs.{InputLaws.{rest-on}}
 use Rattle.everylist.proofs.read.read_rest.Goals as goal
 

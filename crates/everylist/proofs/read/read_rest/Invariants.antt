@@ -1,12 +1,8 @@
 -- `everylist::read::read_rest` meets its contract. The invariant: what came so far is whole words, since every chunk filled the space. The
 use Prim.Native.Nat.{◌+◌, ◌*◌, ◌%◌, ◌≤◌}
-use mathlib.Core.{Path.{◌≡◌, refl, sym, ◌∙◌}, List.{[]}}
-use native.Mathlib.Omega.{arith}
+use mathlib.Core.{Path.{◌≡◌}}
 use lib.ListN.{length}
-use borrow.Author.Rules.{rules}
-use Rattle.listing.specs.Lists.{words_in}
-use Rattle.everylist.specs.{EveryList.{all_numbers}, Input.{RestRead}}
-use Rattle.everylist.proofs.{InputLaws.{rest-on}}
+use Rattle.everylist.specs.{Input.{RestRead}}
 use Rattle.everylist.proofs.read.read_rest.Given as goal
 
 abbrev pub invariant-loop-turns : goal.invariant-loop-turns

@@ -1,5 +1,5 @@
 -- `everylist::step::put_head` meets its contract.
-use Rattle.std.proofs.Common.{rules, arith, ◌≤◌, ◌≡◌, length, refl, ◌∙◌}
+use Rattle.std.proofs.Common.{rules, arith, ◌≤◌, length, refl, ◌∙◌}
 use Rattle.text.proofs.TextLaws.{wrote_none}
 use Rattle.everylist.specs.{EveryList.{spaced_out}, Steps.{letters_in}}
 use Rattle.everylist.proofs.HeadLaws.{letters-room, letters-on, head_done}

@@ -1,11 +1,10 @@
 -- `everylist::step::put_list` meets its contract: the text of the list at the position, or that there is none. Assumes nothing.
-use Prim.Native.Nat.{ℕ, ◌/◌}
-use mathlib.Core.{Path.{◌≡◌, refl, ap, sym, ◌∙◌}, Bool.{true}, List.{List}}
+use Prim.Native.Nat.{◌/◌}
+use mathlib.Core.{Path.{refl, ap, sym, ◌∙◌}, Bool.{true}}
 use native.Mathlib.Omega.{arith}
-use lib.ListN.{take, drop, get_or}
 use mir.{Syntax.{w16}, Val.{to_z, of_z}, Facts.{to_z-of_z}}
 use Rattle.shortlists.specs.Answers.{listed_of, list_told, words_at}
-use Rattle.everylist.proofs.KeptLaws.{Unturned, unturned, letters-same, version-bits}
+use Rattle.everylist.proofs.KeptLaws.{unturned, letters-same, version-bits}
 use Rattle.everylist.proofs.{StepLaws.{stepped, none-there, few-tokens, text-there}}
 use borrow.Author.Rules.{rules}
 use Rattle.everylist.proofs.step.put_list.Goals as goal
@@ -32,8 +31,7 @@ version_of-version-requires c =
 
 pub put_text-end-requires : goal.put_text-end-requires
 put_text-end-requires c =
-    let start = c in
-    (
+    let start = c in (
       search rules,
       search rules,
       few-tokens start.args.bytes start.args.words.now (unturned c.args.bytes c.args.words.now true c.requires.2) start.args.position c.in-Tokens.tokens

@@ -4,7 +4,6 @@ use native.Mathlib.Omega.{arith}
 use lib.ListN.{replicate}
 use Rattle.everylist.specs.Steps.{kept}
 use Rattle.everylist.proofs.{StepLaws.{stepped, refused-first, refused-later}}
-use borrow.Author.Rules.{rules}
 use Rattle.everylist.proofs.step.put_refusal.Goals as goal
 
 pub returns-then-position-ne0 : goal.returns-then-position-ne0

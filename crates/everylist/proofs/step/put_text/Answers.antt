@@ -7,7 +7,6 @@ use mir.Facts.{to_z-of_z}
 use Rattle.molang.specs.Words.{operator_field, words_refusal}
 use Rattle.listing.proofs.AnswerLaws.{can-put}
 use Rattle.everylist.proofs.{HeadLaws.{head-length}, ListLaws.{text-laid}}
-use borrow.Author.Rules.{rules}
 use Rattle.everylist.proofs.step.put_text.Goals as goal
 
 pub slice_bounds-read_list-end : goal.slice_bounds-read_list-end
@@ -42,5 +41,8 @@ returns c =
     let put = c.put_answer.ensures in
     let a = c.args in
     let told = rw (to_z-of_z c.ranges.version) at c.read_list-answered.ensures in
-    record { upper_bound = put.upper_bound; wrote = text-laid a.version a.tokens a.list.now (omega arith) (omega arith) c.put_head-end.ensures (replicate 126 0)
-          (replicate 16 0) told.result_value told.tree_after told.messages_after put.wrote }
+    record {
+      upper_bound = put.upper_bound;
+      wrote = text-laid a.version a.tokens a.list.now (omega arith) (omega arith) c.put_head-end.ensures (replicate 126 0)
+          (replicate 16 0) told.result_value told.tree_after told.messages_after put.wrote;
+    }

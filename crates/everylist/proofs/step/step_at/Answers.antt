@@ -2,7 +2,6 @@
 use mathlib.Core.Path.{ap, sym, ◌∙◌}
 use Rattle.everylist.specs.Steps.{kept, fault_of}
 use Rattle.everylist.proofs.{KeptLaws.{still-unturned}, StepLaws.{stepped, back_step, on_step}}
-use borrow.Author.Rules.{rules}
 use Rattle.everylist.proofs.step.step_at.Goals as goal
 
 pub put_list-requires : goal.put_list-requires

@@ -4,7 +4,6 @@ use lib.ListN.{take}
 use mir.Facts.{to_z-of_z}
 use Rattle.liftcount.specs.{declared.judge.Verdict.{Verdict}, Running.{open_fault}, Judging.{tallied_by}}
 use Rattle.liftcount.proofs.{CloseLaws.{tallied-ends}}
-use borrow.Author.Rules.{rules}
 use Rattle.liftcount.proofs.close.close.Goals as goal
 
 pub returns : goal.returns

@@ -1,6 +1,6 @@
 -- `liftcount::close::one_more` meets its contract. Assumes nothing.
 use mathlib.Core.Path.{refl}
-use borrow.Author.{Rules.{rules}, Tests.{lt-ltb, le-ltb}}
+use borrow.Author.{Tests.{lt-ltb, le-ltb}}
 use Rattle.liftcount.specs.Running.{more}
 use Rattle.liftcount.proofs.close.one_more.Goals as goal
 

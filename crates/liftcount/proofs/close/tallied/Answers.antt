@@ -1,6 +1,5 @@
 -- `liftcount::close::tallied` meets its contract, case by case. Assumes nothing.
 use mathlib.Core.Path.{refl}
-use borrow.Author.Rules.{rules}
 use Rattle.liftcount.proofs.close.tallied.Goals as goal
 
 pub returns-in-Same : goal.returns-in-Same

@@ -1,10 +1,9 @@
 -- `liftcount::feed::feed_bytes` meets its contract. The invariant: the bytes from `i` on lead from here to where all lead. Assumes nothing.
-use Prim.Native.Nat.{◌+◌, ◌-◌, ◌≤◌}
-use mathlib.Core.Path.{◌≡◌, refl, ap, sym, ◌∙◌}
+use Prim.Native.Nat.{◌+◌}
+use mathlib.Core.Path.{refl, ap, sym, ◌∙◌}
 use native.Mathlib.Omega.{arith}
-use borrow.Author.Rules.{rules}
-use lib.ListN.{length, drop}
-use Rattle.liftcount.specs.{Running.{State, state_of, fed}, Judging.{Scratch}}
+use lib.ListN.{drop}
+use Rattle.liftcount.specs.{Running.{State, state_of, fed}}
 use Rattle.liftcount.proofs.{FeedLaws.{byte-on, fed-end, scratch-kept}}
 use Rattle.liftcount.proofs.feed.feed_bytes.Goals as goal
 

@@ -1,11 +1,8 @@
 -- `liftcount::feed::feed_bytes` meets its contract. The invariant: the bytes from `i` on lead from here to where all lead. Assumes nothing.
-use Prim.Native.Nat.{◌+◌, ◌-◌, ◌≤◌}
-use mathlib.Core.Path.{◌≡◌, refl, ap, sym, ◌∙◌}
-use native.Mathlib.Omega.{arith}
-use borrow.Author.Rules.{rules}
+use Prim.Native.Nat.{◌-◌, ◌≤◌}
+use mathlib.Core.Path.{◌≡◌}
 use lib.ListN.{length, drop}
-use Rattle.liftcount.specs.{Running.{State, state_of, fed}, Judging.{Scratch}}
-use Rattle.liftcount.proofs.{FeedLaws.{byte-on, fed-end, scratch-kept}}
+use Rattle.liftcount.specs.{Running.{state_of, fed}, Judging.{Scratch}}
 use Rattle.liftcount.proofs.feed.feed_bytes.Given as goal
 
 abbrev pub invariant-loop-i : goal.invariant-loop-i

@@ -1,11 +1,11 @@
 -- `liftcount::feed::feed_words` meets its contract. The invariant: no word has begun, and the bytes from `at` on lead from here to where
 -- all lead. Assumes nothing.
-use Prim.Native.Nat.{ℕ, ◌+◌, ◌-◌, ◌%◌, ◌^◌, ◌≤◌, ◌<◌}
-use mathlib.Core.Path.{◌≡◌, refl, ap, sym, ◌∙◌}
+use Prim.Native.Nat.{ℕ, ◌+◌, ◌≤◌}
+use mathlib.Core.Path.{refl, ap, sym, ◌∙◌}
 use native.Mathlib.Omega.{arith}
 use borrow.Author.Rules.{rules}
 use lib.ListN.{length, drop}
-use Rattle.liftcount.specs.{Running.{State, state_of, word_taken, fed}, Judging.{Scratch}, Steps.{after_word}}
+use Rattle.liftcount.specs.{Running.{State, state_of, word_taken, fed}, Steps.{after_word}}
 use Rattle.liftcount.proofs.{FeedLaws.{word_on, fed-end, scratch-kept}}
 use Rattle.liftcount.proofs.feed.feed_words.Goals as goal
 

@@ -1,11 +1,8 @@
 -- `liftcount::feed::feed_words` meets its contract. The invariant: no word has begun, and the bytes from `at` on lead from here to where
-use Prim.Native.Nat.{ℕ, ◌+◌, ◌-◌, ◌%◌, ◌^◌, ◌≤◌, ◌<◌}
-use mathlib.Core.Path.{◌≡◌, refl, ap, sym, ◌∙◌}
-use native.Mathlib.Omega.{arith}
-use borrow.Author.Rules.{rules}
+use Prim.Native.Nat.{◌-◌, ◌%◌, ◌^◌, ◌≤◌, ◌<◌}
+use mathlib.Core.Path.{◌≡◌}
 use lib.ListN.{length, drop}
-use Rattle.liftcount.specs.{Running.{State, state_of, word_taken, fed}, Judging.{Scratch}, Steps.{after_word}}
-use Rattle.liftcount.proofs.{FeedLaws.{word_on, fed-end, scratch-kept}}
+use Rattle.liftcount.specs.{Running.{state_of, fed}, Judging.{Scratch}}
 use Rattle.liftcount.proofs.feed.feed_words.Given as goal
 
 abbrev pub invariant-loop-at : goal.invariant-loop-at

@@ -1,6 +1,5 @@
 -- `liftcount::finish::close_last` meets its contract: `close` with scratch of its own. Assumes nothing.
 use mir.Facts.{to_z-of_z}
-use borrow.Author.Rules.{rules}
 use Rattle.liftcount.proofs.finish.close_last.Goals as goal
 
 pub returns : goal.returns

@@ -4,7 +4,6 @@ use mir.Facts.{to_z-of_z}
 use Rattle.liftcount.specs.{declared.run.Stage.TheVariants.{First, Second, Opener, InList, Refused}, Running.{state_of, progress_text}}
 use Rattle.liftcount.specs.Steps.{ending_text}
 use Rattle.liftcount.proofs.{FinishLaws.{part-text, whole-text, closed-text}}
-use borrow.Author.Rules.{rules}
 use Rattle.liftcount.proofs.finish.ended.Goals as goal
 
 pub returns-in-First : goal.returns-in-First

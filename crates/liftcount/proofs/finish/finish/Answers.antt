@@ -2,7 +2,6 @@
 use mathlib.Core.Path.{ap, sym, ◌∙◌}
 use lib.Seq.{length-take-le}
 use Rattle.liftcount.specs.Steps.{ending_text}
-use borrow.Author.Rules.{rules}
 use Rattle.liftcount.proofs.finish.finish.Goals as goal
 
 pub returns-in-Refused : goal.returns-in-Refused

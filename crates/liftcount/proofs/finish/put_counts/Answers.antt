@@ -4,7 +4,6 @@ use native.Mathlib.Omega.{arith}
 use lib.ListN.{length}
 use Rattle.text.proofs.TextLaws.{wrote_then}
 use Rattle.liftcount.specs.{Counting.{count_lines}, Running.{lines_of}}
-use borrow.Author.Rules.{rules}
 use Rattle.liftcount.proofs.{FinishLaws.{number-ends}}
 use Rattle.liftcount.proofs.finish.put_counts.Goals as goal
 
@@ -43,7 +42,10 @@ returns c =
     let fourth = number-ends c.args.counts.one c.put_number-one.auto.out c.put_number-one.ensures in
     let fifth = number-ends c.args.counts.both c.put_number.auto.out c.put_number.ensures in
     let h : 0 ≤ length c.args.out.now = omega arith in
-    record { upper_bound = omega (arith, c.requires); wrote = wrote_then h
+    record {
+      upper_bound = omega (arith, c.requires);
+      wrote = wrote_then h
           (wrote_then h (wrote_then h (wrote_then h c.put_number-read.ensures c.put_number-same.ensures) c.put_number-different.ensures)
           c.put_number-one.ensures)
-          c.put_number.ensures }
+          c.put_number.ensures;
+    }

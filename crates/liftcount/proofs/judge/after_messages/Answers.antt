@@ -1,6 +1,5 @@
 -- `liftcount::judge::after_messages` meets its contract, case by case. Assumes nothing.
 use mathlib.Core.Path.{refl}
-use borrow.Author.Rules.{rules}
 use Rattle.liftcount.proofs.judge.after_messages.Goals as goal
 
 pub returns-in-Refused : goal.returns-in-Refused

@@ -3,7 +3,6 @@ use mathlib.Core.Path.{refl, ap, sym, ◌∙◌}
 use native.Mathlib.Omega.{arith}
 use Rattle.liftcount.specs.Judging.{trees_by}
 use Rattle.liftcount.proofs.{JudgeLaws.{trees-other, trees-by}}
-use borrow.Author.Rules.{rules}
 use Rattle.liftcount.proofs.judge.after_tree.Goals as goal
 
 pub returns-then-n-m : goal.returns-then-n-m

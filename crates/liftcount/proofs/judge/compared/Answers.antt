@@ -1,6 +1,5 @@
 -- `liftcount::judge::compared` meets its contract, case by case. Assumes nothing.
 use mathlib.Core.Path.{refl}
-use borrow.Author.Rules.{rules}
 use Rattle.liftcount.proofs.judge.compared.Goals as goal
 
 pub after_tree-requires : goal.after_tree-requires

@@ -5,7 +5,6 @@ use native.Mathlib.Omega.{arith}
 use lib.Seq.{length-take-le}
 use mir.Facts.{to_z-of_z}
 use Rattle.liftcount.proofs.{JudgeLaws.{not-whole, too_many, open-fault}}
-use borrow.Author.Rules.{rules}
 use Rattle.liftcount.proofs.judge.judge.Goals as goal
 
 pub returns-then-words-ne0 : goal.returns-then-words-ne0
@@ -33,19 +32,22 @@ read_twice-requires c =
     let scratch = c.requires.scratch in
     let size = length-take-le words c.args.list.now (omega (arith, c.requires.list_len, few)) in
     let room = length-take-le (64 * (words / 5) + 64) c.args.work.now (omega (arith, scratch.work_words, few)) in
-    record { readable = record {
+    record {
+      readable = record {
         few = omega (arith, size, few);
         whole = rw size c.if-words-ne0.false;
         tree_room = omega (arith, size, few, scratch.first_tree);
         message_room = omega (arith, scratch.two_records);
         work_room = omega (arith, size, room);
-      }; readable_2 = record {
+      };
+      readable_2 = record {
         few = omega (arith, size, few);
         whole = rw size c.if-words-ne0.false;
         tree_room = omega (arith, size, few, scratch.second_tree);
         message_room = omega (arith, scratch.two_records);
         work_room = omega (arith, size, room);
-      } }
+      };
+    }
 
 pub returns : goal.returns
 returns c =

@@ -6,7 +6,6 @@ use Rattle.molang.specs.Words.{operator_field, words_refusal}
 use Rattle.own.specs.Own.{reading_of}
 use Rattle.liftcount.specs.Judging.{judged, verdict_told}
 use Rattle.liftcount.proofs.{JudgeLaws.{holds, verdict-told}}
-use borrow.Author.Rules.{rules}
 use Rattle.liftcount.proofs.judge.read_twice.Goals as goal
 
 pub compared-requires : goal.compared-requires

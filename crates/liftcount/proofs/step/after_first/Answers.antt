@@ -3,7 +3,6 @@ use mir.Syntax.{w16}
 use mathlib.Core.Path.{◌∙◌}
 use mir.Facts.{to_z-of_z}
 use Rattle.liftcount.proofs.{StepLaws.{first-version, first-fault}}
-use borrow.Author.Rules.{rules}
 use Rattle.liftcount.proofs.step.after_first.Goals as goal
 
 pub returns-then-w-lt-PAST_VERSIONS : goal.returns-then-w-lt-PAST_VERSIONS

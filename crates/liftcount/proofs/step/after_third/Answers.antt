@@ -2,7 +2,6 @@
 use mathlib.Core.Path.{sym, ◌∙◌}
 use mir.Facts.{to_z-of_z}
 use Rattle.liftcount.proofs.{StepLaws.{third-opens, third-fault}}
-use borrow.Author.Rules.{rules}
 use Rattle.liftcount.proofs.step.after_third.Goals as goal
 
 pub returns-then-kind-eq0 : goal.returns-then-kind-eq0

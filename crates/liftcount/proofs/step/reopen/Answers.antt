@@ -1,6 +1,5 @@
 -- `liftcount::step::reopen` meets its contract, case by case. Assumes nothing.
 use mir.Facts.{to_z-of_z}
-use borrow.Author.Rules.{rules}
 use Rattle.liftcount.proofs.step.reopen.Goals as goal
 
 pub returns-in-Counted : goal.returns-in-Counted

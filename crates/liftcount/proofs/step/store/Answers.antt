@@ -3,7 +3,6 @@ use mathlib.Core.Path.{ap, ◌∙◌}
 use mir.Facts.{to_z-of_z}
 use Rattle.liftcount.specs.Steps.{after_word}
 use Rattle.liftcount.proofs.{StepLaws.{keeps, passes}}
-use borrow.Author.Rules.{rules}
 use Rattle.liftcount.proofs.step.store.Goals as goal
 
 pub returns-then-words-list : goal.returns-then-words-list

@@ -2,7 +2,6 @@
 use mathlib.Core.Path.{◌∙◌}
 use Rattle.liftcount.specs.Running.{state_of}
 use Rattle.liftcount.proofs.{StepLaws.{byte-held, byte-fourth}}
-use borrow.Author.Rules.{rules}
 use Rattle.liftcount.proofs.step.take_byte.Goals as goal
 
 pub returns-then-held-lt3 : goal.returns-then-held-lt3

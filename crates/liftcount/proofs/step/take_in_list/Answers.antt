@@ -3,7 +3,6 @@ use mathlib.Core.Path.{ap, sym, ◌∙◌}
 use mir.Facts.{to_z-of_z}
 use Rattle.liftcount.specs.{declared.close.Ending.{Ending}, Steps.{after_word, opened_after}}
 use Rattle.liftcount.proofs.{StepLaws.{reopens}}
-use borrow.Author.Rules.{rules}
 use Rattle.liftcount.proofs.step.take_in_list.Goals as goal
 
 pub returns-then-kind-ne0 : goal.returns-then-kind-ne0

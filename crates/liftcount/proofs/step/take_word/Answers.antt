@@ -2,7 +2,6 @@
 use mir.Facts.{to_z-of_z}
 use mathlib.Core.Path.{ap, ◌∙◌}
 use Rattle.liftcount.specs.{Running.{word_taken}, Steps.{after_word}}
-use borrow.Author.Rules.{rules}
 use Rattle.liftcount.proofs.step.take_word.Goals as goal
 
 pub returns-in-First : goal.returns-in-First

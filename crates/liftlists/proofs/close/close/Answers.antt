@@ -1,18 +1,17 @@
 -- `liftlists::close::close` meets its contract: what is laid is what becomes of the list. Assumes nothing.
 use Prim.Native.Nat.{◌*◌, ◌≤◌}
-use mathlib.Core.{Path.{◌≡◌, sym, ap, ◌∙◌}, List.{◌∷◌}}
+use mathlib.Core.{Path.{◌≡◌, ap}}
 use native.Mathlib.Omega.{arith}
-use lib.{ListN.{length, take}, Seq.{length-take-le}}
+use lib.{ListN.{take}, Seq.{length-take-le}}
 use Rattle.molang.specs.Lift.{lift_of, lifted}
-use Rattle.liftlists.specs.{LiftedFile.{file_list, all_words, engine_of}, Steps.{IsBehind, HasFate}}
+use Rattle.liftlists.specs.{LiftedFile.{file_list, all_words, engine_of}}
 use Rattle.liftlists.proofs.{CutLaws.{carried-behind}, JudgeLaws.{carried_same, carried-lifted, listed}}
-use borrow.Author.Rules.{rules}
 use Rattle.liftlists.proofs.close.close.Goals as goal
 
 pub put_list-requires-in-Lifted : goal.put_list-requires-in-Lifted
 put_list-requires-in-Lifted c =
     let came_out : (lift_of (engine_of c.args.opener) (engine_of c.args.to) c.args.list.now ≡ lifted (take (5 * c.in-Lifted.tokens) c.judge-fate.new.output))
-        × (5 * c.in-Lifted.tokens ≤ 20480) =
+    × (5 * c.in-Lifted.tokens ≤ 20480) =
     (let h = rw c.in-Lifted.is at c.judge-fate.ensures in (h.0, omega (arith, h.1, c.judge-fate.auto.output, c.requires.lift_scratch.output_words)))
     in
     omega (arith, came_out.1, length-take-le (5 * c.in-Lifted.tokens) c.judge-fate.new.output (omega (arith, came_out.1, c.judge-fate.auto.output, c.requires.lift_scratch.output_words)), c.requires.list_len_bound.3)
@@ -28,7 +27,7 @@ returns-in-Same c =
 pub returns-in-Lifted : goal.returns-in-Lifted
 returns-in-Lifted c =
     let came_out : (lift_of (engine_of c.args.opener) (engine_of c.args.to) c.args.list.now ≡ lifted (take (5 * c.in-Lifted.tokens) c.judge-fate.new.output))
-        × (5 * c.in-Lifted.tokens ≤ 20480) =
+    × (5 * c.in-Lifted.tokens ≤ 20480) =
     (let h = rw c.in-Lifted.is at c.judge-fate.ensures in (h.0, omega (arith, h.1, c.judge-fate.auto.output, c.requires.lift_scratch.output_words)))
     in
     let a = c.args in
@@ -47,7 +46,7 @@ returns-in-Behind c =
 pub overflow_mul-end : goal.overflow_mul-end
 overflow_mul-end c =
     let came_out : (lift_of (engine_of c.args.opener) (engine_of c.args.to) c.args.list.now ≡ lifted (take (5 * c.in-Lifted.tokens) c.judge-fate.new.output))
-        × (5 * c.in-Lifted.tokens ≤ 20480) =
+    × (5 * c.in-Lifted.tokens ≤ 20480) =
     (let h = rw c.in-Lifted.is at c.judge-fate.ensures in (h.0, omega (arith, h.1, c.judge-fate.auto.output, c.requires.lift_scratch.output_words)))
     in
     omega (arith, came_out.1)

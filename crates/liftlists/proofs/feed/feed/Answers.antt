@@ -1,12 +1,11 @@
 -- `liftlists::feed::feed` meets its contract. The invariant: the chunk's bytes up to `i` lead from where the chunk began to here. Assumes
 -- nothing.
-use Prim.Native.Nat.{ℕ, ◌+◌, ◌-◌, ◌%◌, ◌≤◌}
-use mathlib.Core.{Path.{◌≡◌, refl, sym, ◌∙◌}, List.{List, []}}
+use Prim.Native.Nat.{◌+◌, ◌≤◌}
+use mathlib.Core.{Path.{◌≡◌, refl, sym, ◌∙◌}, List.{[]}}
 use native.Mathlib.Omega.{arith}
 use lib.{ListN.{length, take}, Seq.{take_all}}
-use borrow.Author.Rules.{rules}
-use Rattle.liftlists.specs.declared.{step.Stage.{Stage}, feed.Room.TheVariants.{At}}
-use Rattle.liftlists.specs.{Steps.{LiftScratch, Fine, held_in}, Going.{FileGoes, file_from, yet, Spilled}}
+use Rattle.liftlists.specs.declared.{feed.Room.TheVariants.{At}}
+use Rattle.liftlists.specs.{Steps.{held_in}, Going.{file_from, Spilled}}
 use Rattle.liftlists.proofs.{GoingLaws.{reached_then, word-goes, scratch-kept}}
 use Rattle.liftlists.proofs.feed.feed.Goals as goal
 
@@ -26,8 +25,7 @@ loop-i-init g c =
 
 pub spill-room-requires : goal.spill-room-requires
 spill-room-requires g c =
-    let at = c.loop-i in
-    (
+    let at = c.loop-i in (
       omega (arith, at.invariant.laid, at.invariant.outs),
       record { later = file_from c.args.to (held_in at.then at.list); reached = reached_then c.requires.fine.1 at.invariant.goes },
     )

@@ -2,7 +2,6 @@
 use mathlib.Core.{Path.{refl, sym}, List.{[]}}
 use native.Mathlib.Omega.{arith}
 use lib.{ListN.{take}, Seq.{length-take-le}}
-use borrow.Author.Rules.{rules}
 use Rattle.liftlists.proofs.feed.spill.Goals as goal
 
 pub returns-then-at-lt-ENOUGH : goal.returns-then-at-lt-ENOUGH

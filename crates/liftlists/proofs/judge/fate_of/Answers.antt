@@ -1,7 +1,4 @@
 -- `liftlists::judge::fate_of` meets its contract. Assumes nothing.
-use mathlib.Core.Path.{◌≡◌, ap, sym}
-use Rattle.lift.specs.Answers.{lift_told}
-use Rattle.liftlists.specs.Steps.{fate_told}
 use borrow.Author.Rules.{rules}
 use Rattle.liftlists.proofs.judge.fate_of.Goals as goal
 

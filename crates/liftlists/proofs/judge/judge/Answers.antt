@@ -1,14 +1,10 @@
 -- `liftlists::judge::judge` meets its contract: it has room for the list, and the fate is what the lift tells. Assumes nothing.
-use Prim.Native.Nat.{ℕ, ◌+◌, ◌*◌, ◌/◌}
-use mathlib.Core.{Path.{◌≡◌, refl, sym, ap, ◌∙◌}, List.{List}}
+use mathlib.Core.{Path.{refl, sym, ap, ◌∙◌}}
 use native.Mathlib.Omega.{arith}
 use lib.{IntN.{ℤ}, Seq.{length-take-le}}
 use mir.{Syntax.{w16}, Facts.{to_z-of_z}}
-use Rattle.molang.specs.Lift.{lift_of}
 use Rattle.lift.specs.Answers.{engine}
-use Rattle.liftlists.specs.{LiftedFile.{engine_of}, Steps.{fate_told, HasFate}}
 use Rattle.liftlists.proofs.{CutLaws.{not-whole}, JudgeLaws.{judged}}
-use borrow.Author.Rules.{rules}
 use Rattle.liftlists.proofs.judge.judge.Goals as goal
 
 pub overflow_mul-room : goal.overflow_mul-room

@@ -1,10 +1,8 @@
 -- `liftlists::put::put_list` meets its contract. Assumes nothing.
-use mathlib.Core.{Path.{◌∙◌}, List.{[], ◌∷◌}}
+use mathlib.Core.{List.{[], ◌∷◌}}
 use native.Mathlib.Omega.{arith}
 use Rattle.text.proofs.TextLaws.{wrote_then}
-use Rattle.liftlists.specs.LiftedFile.{bytes_of}
 use Rattle.liftlists.proofs.{PutLaws.{bytes-length, bytes-append}}
-use borrow.Author.Rules.{rules}
 use Rattle.liftlists.proofs.put.put_list.Goals as goal
 
 pub put_words-requires : goal.put_words-requires

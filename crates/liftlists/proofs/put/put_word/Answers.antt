@@ -1,5 +1,4 @@
 -- `liftlists::put::put_word` meets its contract. Assumes nothing.
-use borrow.Author.Rules.{rules}
 use Rattle.liftlists.specs.LiftedFile.{bytes_of}
 use Rattle.liftlists.proofs.put.put_word.Goals as goal
 

@@ -1,9 +1,8 @@
 -- `liftlists::put::put_words` meets its contract: the first i words are laid. Assumes nothing.
-use Prim.Native.Nat.{◌+◌, ◌*◌, ◌-◌, ◌≤◌}
-use mathlib.Core.{Path.{◌≡◌, refl, ◌∙◌}, List.{[], ◌∷◌}}
+use mathlib.Core.{Path.{refl, ◌∙◌}, List.{[], ◌∷◌}}
 use native.Mathlib.Omega.{arith}
-use lib.ListN.{length, take, get_or}
-use Rattle.text.{specs.Text.{Wrote}, proofs.TextLaws.{wrote_none}}
+use lib.ListN.{get_or}
+use Rattle.text.{proofs.TextLaws.{wrote_none}}
 use Rattle.liftlists.specs.LiftedFile.{bytes_of}
 use Rattle.liftlists.proofs.{PutLaws.{bytes-length, word_more, words-all}}
 use Rattle.liftlists.proofs.put.put_words.Goals as goal

@@ -1,11 +1,9 @@
 -- `liftlists::put::put_words` meets its contract: the first i words are laid. Assumes nothing.
 use Prim.Native.Nat.{◌+◌, ◌*◌, ◌-◌, ◌≤◌}
-use mathlib.Core.{Path.{◌≡◌, refl, ◌∙◌}, List.{[], ◌∷◌}}
-use native.Mathlib.Omega.{arith}
-use lib.ListN.{length, take, get_or}
-use Rattle.text.{specs.Text.{Wrote}, proofs.TextLaws.{wrote_none}}
+use mathlib.Core.{Path.{◌≡◌}}
+use lib.ListN.{length, take}
+use Rattle.text.{specs.Text.{Wrote}}
 use Rattle.liftlists.specs.LiftedFile.{bytes_of}
-use Rattle.liftlists.proofs.{PutLaws.{bytes-length, word_more, words-all}}
 use Rattle.liftlists.proofs.put.put_words.Given as goal
 
 abbrev pub invariant-loop-i : goal.invariant-loop-i

@@ -1,11 +1,9 @@
 -- `liftlists::step::close_last` meets its contract. Assumes nothing.
-use mathlib.Core.Path.{◌≡◌, sym}
 use native.Mathlib.Omega.{arith}
-use lib.{ListN.{length, take}, Seq.{length-take-le}}
+use lib.{Seq.{length-take-le}}
 use Rattle.text.proofs.TextLaws.{wrote_none}
 use Rattle.liftlists.specs.{LiftedFile.{bytes_of, file_cut, joined_lists, carried_all, lifted_words}, Steps.{ListHeld}}
 use Rattle.liftlists.proofs.{CutLaws.{version-opens, closes-last}}
-use borrow.Author.Rules.{rules}
 use Rattle.liftlists.proofs.step.close_last.Goals as goal
 
 pub close-requires : goal.close-requires

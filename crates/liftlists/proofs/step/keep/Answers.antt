@@ -2,7 +2,6 @@
 use mathlib.Core.List.{◌∷◌}
 use native.Mathlib.Omega.{arith}
 use Rattle.liftlists.proofs.{PutLaws.{bytes-length}, StepLaws.{kept-took, long-took}}
-use borrow.Author.Rules.{rules}
 use Rattle.liftlists.proofs.step.keep.Goals as goal
 
 pub returns-then-n-lt-MOST_WORDS : goal.returns-then-n-lt-MOST_WORDS

@@ -1,5 +1,4 @@
 -- `liftlists::step::pass` meets its contract. Assumes nothing.
-use borrow.Author.Rules.{rules}
 use Rattle.liftlists.proofs.{StepLaws.{opened-took, passed-took}}
 use Rattle.liftlists.proofs.step.pass.Goals as goal
 

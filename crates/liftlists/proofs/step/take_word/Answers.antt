@@ -1,10 +1,9 @@
 -- `liftlists::step::take_word` meets its contract, stage by stage. Assumes nothing.
-use mathlib.Core.Path.{◌≡◌, sym, ◌∙◌}
+use mathlib.Core.Path.{sym, ◌∙◌}
 use native.Mathlib.Omega.{arith}
-use lib.{ListN.{length, take}, Seq.{length-take-le}}
+use lib.{Seq.{length-take-le}}
 use Rattle.liftlists.specs.Steps.{ListHeld}
 use Rattle.liftlists.proofs.{StepLaws.{closed-took, took-little}}
-use borrow.Author.Rules.{rules}
 use Rattle.liftlists.proofs.step.take_word.Goals as goal
 
 pub keep-requires : goal.keep-requires

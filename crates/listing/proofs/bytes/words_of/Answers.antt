@@ -1,9 +1,7 @@
 -- `listing::bytes::words_of` meets its contract: the first i words are those of the bytes. Assumes nothing.
-use Prim.Native.Nat.{◌-◌, ◌≤◌}
-use mathlib.Core.Path.{◌≡◌, refl}
+use mathlib.Core.Path.{refl}
 use native.Mathlib.Omega.{arith}
-use lib.ListN.{length, take, length-set}
-use Rattle.listing.specs.Lists.{words_in}
+use lib.ListN.{length-set}
 use Rattle.listing.proofs.{ByteLaws.{words-on, words-all}}
 use Rattle.listing.proofs.bytes.words_of.Goals as goal
 

@@ -1,10 +1,8 @@
 -- `listing::bytes::words_of` meets its contract: the first i words are those of the bytes. Assumes nothing.
 use Prim.Native.Nat.{◌-◌, ◌≤◌}
-use mathlib.Core.Path.{◌≡◌, refl}
-use native.Mathlib.Omega.{arith}
-use lib.ListN.{length, take, length-set}
+use mathlib.Core.Path.{◌≡◌}
+use lib.ListN.{length, take}
 use Rattle.listing.specs.Lists.{words_in}
-use Rattle.listing.proofs.{ByteLaws.{words-on, words-all}}
 use Rattle.listing.proofs.bytes.words_of.Given as goal
 
 abbrev pub invariant-loop-i : goal.invariant-loop-i

@@ -1,5 +1,4 @@
 -- `listing::rows::put_node` meets its contract: four fields of the node's words, in a line. Assumes nothing.
-use borrow.Author.Rules.{rules}
 use Rattle.listing.proofs.{RowLaws.{node-laid}}
 use Rattle.listing.proofs.rows.put_node.Goals as goal
 

@@ -1,9 +1,7 @@
 -- `listing::rows::put_nodes` meets its contract: the lines of the first i nodes are laid. Assumes nothing.
-use Prim.Native.Nat.{◌-◌, ◌≤◌}
 use mathlib.Core.Path.{◌≡◌, refl}
 use native.Mathlib.Omega.{arith}
-use lib.ListN.{length}
-use Rattle.text.{specs.Text.{Wrote}, proofs.TextLaws.{wrote_none}}
+use Rattle.text.{proofs.TextLaws.{wrote_none}}
 use Rattle.listing.specs.Rows.{node_rows}
 use Rattle.listing.proofs.{RowLaws.{node-rows-length, nodes-on}}
 use Rattle.listing.proofs.rows.put_nodes.Goals as goal

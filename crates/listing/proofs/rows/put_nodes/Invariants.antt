@@ -1,11 +1,9 @@
 -- `listing::rows::put_nodes` meets its contract: the lines of the first i nodes are laid. Assumes nothing.
 use Prim.Native.Nat.{◌-◌, ◌≤◌}
-use mathlib.Core.Path.{◌≡◌, refl}
-use native.Mathlib.Omega.{arith}
+use mathlib.Core.Path.{◌≡◌}
 use lib.ListN.{length}
-use Rattle.text.{specs.Text.{Wrote}, proofs.TextLaws.{wrote_none}}
+use Rattle.text.{specs.Text.{Wrote}}
 use Rattle.listing.specs.Rows.{node_rows}
-use Rattle.listing.proofs.{RowLaws.{node-rows-length, nodes-on}}
 use Rattle.listing.proofs.rows.put_nodes.Given as goal
 
 abbrev pub invariant-loop-i : goal.invariant-loop-i

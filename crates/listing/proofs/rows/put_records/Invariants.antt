@@ -1,11 +1,9 @@
 -- `listing::rows::put_records` meets its contract: the lines of the first i records are laid. Assumes nothing.
-use Prim.Native.Nat.{◌+◌, ◌-◌, ◌*◌, ◌≤◌}
-use mathlib.Core.Path.{◌≡◌, refl}
-use native.Mathlib.Omega.{arith}
-use lib.ListN.{length, take, drop, length-take, length-drop}
-use Rattle.text.{specs.Text.{Wrote}, proofs.TextLaws.{wrote_none}}
+use Prim.Native.Nat.{◌-◌, ◌≤◌}
+use mathlib.Core.Path.{◌≡◌}
+use lib.ListN.{length}
+use Rattle.text.{specs.Text.{Wrote}}
 use Rattle.listing.specs.Rows.{record_rows}
-use Rattle.listing.proofs.{RowLaws.{record-rows-length, records-on}}
 use Rattle.listing.proofs.rows.put_records.Given as goal
 
 abbrev pub invariant-loop-i : goal.invariant-loop-i

@@ -1,11 +1,9 @@
 -- `listing::rows::put_row` meets its contract: the first i numbers are laid, each with a space. Assumes nothing.
 use Prim.Native.Nat.{◌-◌, ◌≤◌}
-use mathlib.Core.Path.{◌≡◌, refl}
-use native.Mathlib.Omega.{arith}
+use mathlib.Core.Path.{◌≡◌}
 use lib.ListN.{length}
-use Rattle.text.{specs.Text.{Wrote}, proofs.TextLaws.{wrote_none}}
+use Rattle.text.{specs.Text.{Wrote}}
 use Rattle.listing.specs.Rows.{spaced}
-use Rattle.listing.proofs.{RowLaws.{spaced-length, spaced-on, row_done}}
 use Rattle.listing.proofs.rows.put_row.Given as goal
 
 abbrev pub invariant-loop-i : goal.invariant-loop-i

@@ -1,11 +1,10 @@
 -- `treelist::asked::answer` meets its contract: a refusal of the program, or the reading of the list. Assumes nothing.
-use Prim.Native.Nat.{ℕ, ◌+◌, ◌-◌}
+use Prim.Native.Nat.{◌+◌, ◌-◌}
 use mathlib.Core.{Path.{◌≡◌, ap, sym, ◌∙◌}, Option.{none}}
 use native.Mathlib.Omega.{arith}
 use lib.ListN.{length, take, drop, get_or, length-take, length-drop}
 use mir.{Syntax.{w16}, Val.{to_z, of_z}, Facts.{to_z-of_z}}
 use Rattle.treelist.specs.{declared.asked.Request.TheVariants.{List as Request-List}, Listing.{turned_back, refusal_of, Counted}}
-use borrow.Author.Rules.{rules}
 use Rattle.treelist.proofs.AskedLaws.{back-told, back-tree, back-messages, read-fault, read_answer}
 use Rattle.treelist.proofs.asked.answer.Goals as goal
 

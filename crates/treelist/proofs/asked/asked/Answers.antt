@@ -1,7 +1,6 @@
 -- `treelist::asked::asked` meets its contract: the tests in the definition's order. Assumes nothing.
 use mathlib.Core.Path.{refl}
 use native.Mathlib.Omega.{arith}
-use borrow.Author.Rules.{rules}
 use Rattle.treelist.specs.Listing.{list_length}
 use Rattle.treelist.proofs.AskedLaws.{turned-part, turned-empty, turned-first, turned-words, turned-long, not-turned}
 use Rattle.treelist.proofs.asked.asked.Goals as goal
@@ -21,15 +20,21 @@ pub returns-then-words-gt-MOST_WORDS : goal.returns-then-words-gt-MOST_WORDS
 unfolding list_length
 returns-then-words-gt-MOST_WORDS c =
     let a = c.args in
-    record { result_value = turned-long a.bytes a.first c.if-bytes-ne0.false c.if-bytes-eq0.false (omega arith)
-          c.if-words-ne0.false (omega arith); counted = tt }
+    record {
+      result_value = turned-long a.bytes a.first c.if-bytes-ne0.false c.if-bytes-eq0.false (omega arith)
+          c.if-words-ne0.false (omega arith);
+      counted = tt;
+    }
 
 pub returns : goal.returns
 unfolding list_length
 returns c =
     let a = c.args in
-    record { result_value = not-turned a.bytes a.first c.if-bytes-ne0.false c.if-bytes-eq0.false (omega arith)
-          c.if-words-ne0.false (omega arith); counted = (refl, omega arith, c.if-words-ne0.false, omega arith) }
+    record {
+      result_value = not-turned a.bytes a.first c.if-bytes-ne0.false c.if-bytes-eq0.false (omega arith)
+          c.if-words-ne0.false (omega arith);
+      counted = (refl, omega arith, c.if-words-ne0.false, omega arith);
+    }
 
 pub returns-then-bytes-ne0 : goal.returns-then-bytes-ne0
 returns-then-bytes-ne0 c =
