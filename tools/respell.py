@@ -1,7 +1,7 @@
 #!/usr/bin/env python3
 """Brings this repository's own names in contracts, definitions, laws, proofs and edits to today's spelling, after port.py, once.
 
-usage: tools/respell.py        at the top of a checkout in which /opt/rattle/port/port.py ran
+usage: tools/respell.py        at the top of a checkout in which the kit's port.py ran
 
 Every name in crates/ and edits/ that has lower and upper case letters and begins with a lower one is a name of antt's, since Rust code has
 none: `tokensBefore` becomes `tokens_before`. Types, modules and constructors of Rust enums begin with a capital and stay. Dashes stay,

@@ -1,6 +1,6 @@
 #!/bin/bash
 # try-edits CRATE EDIT...: each edit alone, in a copy of int, by rt dev; prints refused/ACCEPTED and the first error
-cd /work/wt/int
+cd $WT/int
 copy=/tmp/te.$1; rm -rf $copy; mkdir $copy; cp -a crates crates.txt $copy/; mkdir $copy/target; for d in target/rlib target/stamp target/log target/inc; do [ -e $d ] && cp -a $d $copy/target/; done
 crate=$1; shift
 cd $copy

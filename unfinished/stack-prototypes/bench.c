@@ -18,7 +18,7 @@ static void ref_export(const u32*w, sz n, u32*o){ // plain recursive-free
 static double now(){ struct timespec t; clock_gettime(CLOCK_MONOTONIC,&t); return t.tv_sec*1e9+t.tv_nsec; }
 int main(int argc,char**argv){
   int rounds = argc>1?atoi(argv[1]):20; const char*only = argc>2?argv[2]:0;
-  FILE*f=fopen("/tmp/proto/trees.bin","rb");
+  FILE*f=fopen("proto/trees.bin","rb");
   while(1){ W*x=&ws[nw]; if(fread(x->name,1,32,f)!=32)break; fread(&x->size,4,1,f); fread(&x->count,4,1,f);
     x->w=malloc(8*x->count); x->s=malloc(8*x->count); x->len=malloc(4*x->count);
     for(u32 i=0;i<x->count;i++){ u32 l; fread(&l,4,1,f); x->len[i]=l; x->w[i]=malloc(4*l+64); fread(x->w[i],4,l,f); x->s[i]=malloc(4*l+64); ref_export(x->w[i],l,x->s[i]); x->nodes+=l/7; }

@@ -1,1 +1,1 @@
-cd /tmp/wt/m11/compare && MOLANGX_SRC=/work/shared/docs/src SORBRUDDER_LIB=/tmp/wt/m11lib/stub CARGO_TARGET_DIR=/tmp/wt/m11lib/stubtarget /tmp/slots/slot cargo test --release --offline --no-run --test histories > /tmp/wt/m11lib/stub/build.log 2>&1
+cd $WT/m11/compare && MOLANGX_SRC=../shared/docs/src SORBRUDDER_LIB=$WT/m11lib/stub CARGO_TARGET_DIR=$WT/m11lib/stubtarget $SLOTS/slot cargo test --release --offline --no-run --test histories > $WT/m11lib/stub/build.log 2>&1

@@ -1,1 +1,1 @@
-export MOLANGX_SRC=/work/shared/docs/src SORBRUDDER_LIB=/tmp/wt/m11lib/staticlib
+export MOLANGX_SRC=../shared/docs/src SORBRUDDER_LIB=$WT/m11lib/staticlib

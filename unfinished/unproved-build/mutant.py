@@ -2,7 +2,7 @@
 """mutant.py TREE CRATE EDIT OUT: copies TREE/crates, applies an edit, compiles the program of PROGRAM unproved to OUT."""
 import sys, shutil, subprocess, os, re, time, glob, threading
 tree, crate, edit, program, out = sys.argv[1:6]
-work = f'/tmp/wt/prtry/mut-{os.path.basename(out)}'
+work = f'$WT/prtry/mut-{os.path.basename(out)}'
 shutil.rmtree(work, ignore_errors=True)
 os.makedirs(work + '/tmp')
 shutil.copytree(tree + '/crates', work + '/crates')
@@ -31,6 +31,6 @@ objects = sorted(glob.glob(keep + '/*-2/module*.o*'))
 if not objects:
     print('NO OBJECT', r.stdout[-2000:], r.stderr[-2000:]); sys.exit(1)
 shutil.copy(objects[0], work + '/p.o')
-own = '/opt/rattle/on/x86_64'
+own = '$KIT'
 subprocess.run([own + '/bin/rattle-link', '--target', 'x86_64-unknown-linux-gnu', '--toolchain', own + '/toolchain', '-o', out, work + '/p.o'], check=True, capture_output=True)
 shutil.rmtree(work)

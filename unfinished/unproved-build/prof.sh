@@ -1,6 +1,6 @@
 #!/usr/bin/env bash
 # prof.sh NAME: a build of t-NAME with all functions of a list kept apart
-n=$1; cd /tmp/perf/t-$n
+n=$1; cd $PERF/t-$n
 python3 - <<'P'
 import re
 s=open('lib.ll').read()
@@ -20,4 +20,4 @@ for line in s.split('\n'):
     out.append(line)
 open('prof.ll','w').write('\n'.join(out))
 P
-/opt/rattle/on/x86_64/toolchain/bin/clang -O3 -fPIC -c -x ir prof.ll -o prof.o && mkdir -p /tmp/perf/lib/$n-prof && cc -shared -Wl,-Bsymbolic -o /tmp/perf/lib/$n-prof/lib.so prof.o && nm -S --size-sort /tmp/perf/lib/$n-prof/lib.so | tail -40; grep -c . names
+$KIT/toolchain/bin/clang -O3 -fPIC -c -x ir prof.ll -o prof.o && mkdir -p $PERF/lib/$n-prof && cc -shared -Wl,-Bsymbolic -o $PERF/lib/$n-prof/lib.so prof.o && nm -S --size-sort $PERF/lib/$n-prof/lib.so | tail -40; grep -c . names

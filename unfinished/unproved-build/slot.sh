@@ -5,9 +5,9 @@ places="1 2 3"; long=1
 case "$1 $2" in "rt fmt") exec "$@";;  "rt dev"|"rt try"|"rt goals") places="1 2 3 4 5"; long=;; tools/places.sh*) places="1 2 3 4 5"; long=;; esac
 run() { if [ -n "$long" ]; then setsid -w bash -c 'echo 12 > /proc/self/autogroup 2>/dev/null; exec "$@"' _ "$@"; else "$@"; fi; }
 while :; do
-  while [ -e /tmp/slots/quiet ]; do sleep 1; done
+  while [ -e $SLOTS/quiet ]; do sleep 1; done
   for i in $places; do
-    exec 9>/tmp/slots/lock$i
+    exec 9>$SLOTS/lock$i
     if flock -n 9; then
       if [ "$1" = rt ] && [ "$2" = must-fail ]; then
         shift 2
