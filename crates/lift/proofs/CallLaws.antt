@@ -14,7 +14,8 @@ use Rattle.lift.specs.Lifting.{LiftCall, room_refusal, first_call, Handed, hande
 use Rattle.lift.specs.Lifting.{after_writing, written_out, after_second, LiftLeft, stopped, after_first, unread, by_room, lift_left, tree_by}
 use Rattle.lift.specs.{Lifting.{tree_left, IsLift}, declared.Outcome.{Outcome}, declared.Outcome.TheVariants.{Behind}}
 use Rattle.lift.specs.Answers.{lift_told, output_of, left_of, engine, handed_of, WasRead, HasLifted}
-use Rattle.lift.proofs.Lifted.{lift-is}
+use Rattle.lift.proofs.Lifted.{lift-is, lift-within}
+use Rattle.lift.proofs.Within.{IsLiftWithin}
 
 -- A tree that a reading told stands within its buffer.
 pub read-room : (nodes : ℕ) (tree : List ℕ) → WasRead (a_tree nodes) tree → 7 * nodes ≤ length tree
@@ -91,6 +92,11 @@ has-lifted : (c : LiftCall) {r : Outcome} {tree again messages work output : Lis
     → HasLifted c r tree again messages work output
 has-lifted c left tree =
     record { left = left; tree = tree; lift = subst (λ (l : LiftLeft). IsLift c l.told l.output) (sym left) (lift-is c) }
+
+-- By the call's promise what is told ends within the output.
+pub told-within : {c : LiftCall} {r : Outcome} {tree again messages work output : List ℕ} → HasLifted c r tree again messages work output
+    → IsLiftWithin c (lift_told r) output
+told-within {c} h = subst (λ (l : LiftLeft). IsLiftWithin c l.told l.output) (sym h.left) (lift-within c)
 
 -- A call that is turned back for its lengths.
 pub no_room : (c : LiftCall) (number place n : ℕ) → is_refused number place ≡ verdict n (room_refusal c)

@@ -13,8 +13,9 @@ use Rattle.accept.{specs.declared.Sizes.{Sizes}, specs.Accepting.{verdict, call_
 use Rattle.accept.proofs.AcceptLaws.{table}
 use Rattle.own.specs.Own.{named_call, own_call}
 use Rattle.lift.specs.Lifting.{LiftCall, Handed, room_refusal, first_limit, LiftTold, stays_same, comes_out, has_messages, stays_behind}
-use Rattle.lift.specs.Lifting.{LiftLeft, unread, handed, first_call, after_first, by_room, lift_left, tree_by, tree_left, IsLift, of_lengths}
-use Rattle.lift.specs.{Lifting.{stopped, of_output, is_same, is_lifted, is_messages, is_behind}, declared.Outcome.{Outcome}}
+use Rattle.lift.specs.Lifting.{LiftLeft, unread, handed, first_call, after_first, by_room, lift_left, tree_by, tree_left}
+use Rattle.lift.specs.{Lifting.{stopped}, declared.Outcome.{Outcome}}
+use Rattle.lift.proofs.{CallLaws.{told-within}, Within.{IsLiftWithin, by_lengths, by_output, list_stays, list_comes, list_told, list_behind}}
 use Rattle.lift.specs.Answers.{lift_told, HasLifted}
 use Rattle.lift.specs.Entry.{LotTold, lot_of, or_turned, turned_back, entry_refusal, entry_told, entry_left, lot_lift, turned_by, CanTell}
 use Rattle.lift.specs.Entry.{kept_or, behind_by, behind_as, HasEntered}
@@ -131,15 +132,15 @@ behind-lift (some token) number place output = refl
 
 -- THE DEFINITION'S LIFT is told, where the output has room for all that can be written.
 pub told-lift : (c : LiftCall) → room_refusal c ≡ none → 20480 ≤ length c.output → (deep : Option ℕ) (t : LiftTold) (output : List ℕ)
-    → IsLift c t output
+    → IsLiftWithin c t output
     → lift_of c.from c.to c.list ≡ lot_lift (lot_of deep t) output
 unfolding lot_lift
-told-lift c free room deep t output (of_lengths e f) = let z : ◌≡◌ {A = ℕ} 0 1 = cc in absurd (omega arith)
-told-lift c free room deep t output (of_output reads plain few short f) = absurd (omega (arith, few, short, room))
-told-lift c free room deep t output (is_same e f) = rw f e
-told-lift c free room deep t output (is_lifted e within f) = rw f e
-told-lift c free room deep t output (is_messages e f) = rw f e
-told-lift c free room deep t output (is_behind {number} {place} e f) = rw f (e ∙ behind-lift deep number place output)
+told-lift c free room deep t output (by_lengths e f) = let z : ◌≡◌ {A = ℕ} 0 1 = cc in absurd (omega arith)
+told-lift c free room deep t output (by_output reads plain few short f) = absurd (omega (arith, few, short, room))
+told-lift c free room deep t output (list_stays e f) = rw f e
+told-lift c free room deep t output (list_comes e within f) = rw f e
+told-lift c free room deep t output (list_told e f) = rw f e
+told-lift c free room deep t output (list_behind {number} {place} e f) = rw f (e ∙ behind-lift deep number place output)
 
 -- ---- THE PROMISE
 
@@ -235,7 +236,7 @@ long-entered c long {r} {tree} {again} {messages} {work} {output} h {n} m {says}
           work = rw free (ap (λ (l : LiftLeft). l.work) h.left);
           output = rw free (ap (λ (l : LiftLeft). l.output) h.left);
           lift = λ e.
-              told-lift c (first-none _ _ f).0 long deep (lift_told r) output h.lift
+              told-lift c (first-none _ _ f).0 long deep (lift_told r) output (told-within h)
               ∙ ap (λ (x : LotTold). lot_lift x output) (sym (is ∙ ap (λ (l : LiftLeft). lot_of deep l.told) (sym h.left)));
         }
 

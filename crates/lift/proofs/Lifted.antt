@@ -21,7 +21,8 @@ use Rattle.derived.{specs.Derived.{named, highest}, proofs.WordLaws.{named-few, 
 use Rattle.own.specs.Own.{named_call, own_call}
 use Rattle.lift.specs.Lifting.{LiftCall, room_refusal, first_limit, first_call, handed, second_call, writer_call, stays_behind, OutputLeft}
 use Rattle.lift.specs.Lifting.{after_writing, written_out, same_told, or_written_out, after_second, after_first, stopped, by_room, lift_left}
-use Rattle.lift.specs.Lifting.{IsLift, of_lengths, of_output, is_same, is_lifted, is_messages, is_behind}
+use Rattle.lift.specs.Lifting.{IsLift}
+use Rattle.lift.proofs.Within.{IsLiftWithin, by_lengths, by_output, list_stays, list_comes, list_told, list_behind, within-lift}
 
 -- ---- The table's rows
 
@@ -199,9 +200,9 @@ module _ (c : LiftCall) (k : Token) (cs : Forest) (p : Parsed (first_call c) k c
 
   is-unwritten : (number place : ℕ) → write_answered writing ≡ unwritten number place
       → unwritable c.to.limit k cs ≡ some (row number place)
-      → IsLift c out.told out.output
+      → IsLiftWithin c out.told out.output
   is-unwritten number place e u =
-      is_behind (reason-behind c.from c.to c.list number place (not_written can.accepted can.reads can.within other u))
+      list_behind (reason-behind c.from c.to c.list number place (not_written can.accepted can.reads can.within other u))
       (not-out number place e)
 
   lifts : unplain_at k cs ≡ none → length (written_tree k cs) ≤ most_tokens → too_deep c.to.limit (written_tree k cs) ≡ none
@@ -213,7 +214,7 @@ module _ (c : LiftCall) (k : Token) (cs : Forest) (p : Parsed (first_call c) k c
 
   is-written : unplain_at k cs ≡ none → length (written_tree k cs) ≤ most_tokens → 5 * length (written_tree k cs) ≤ length c.output
       → (o : Option ℕ) → too_deep c.to.limit (written_tree k cs) ≡ o
-      → IsLift c out.told out.output
+      → IsLiftWithin c out.told out.output
   unfolding written_out after_writing unwritable must first_of writer_call
   is-written plain few room o e =
       let n = length (written_tree k cs) in
@@ -227,17 +228,17 @@ module _ (c : LiftCall) (k : Token) (cs : Forest) (p : Parsed (first_call c) k c
           → too_deep c.to.limit (tokens_of (take (5 * length (written_tree k cs)) (list_after writing))) ≡ o
           → write_answered writing ≡ tokens (length (written_tree k cs))
           → Wrote k cs writing
-          → IsLift c out.told out.output
+          → IsLiftWithin c out.told out.output
       split (some place) e deep tells wrote =
-          is_behind (reason-behind c.from c.to c.list 18 place
+          list_behind (reason-behind c.from c.to c.list 18 place
           (not_written can.accepted can.reads can.within other
           (rw (plain, le-leb (length (written_tree k cs)) most_tokens few, e) refl)))
           (rw (tells, deep) refl)
       split none e deep tells wrote =
-          is_lifted {count = length (written_tree k cs)} (rw tells (rw wrote.front (lifts plain few e))) room (rw (tells, deep) refl)
+          list_comes {count = length (written_tree k cs)} (rw tells (rw wrote.front (lifts plain few e))) room (rw (tells, deep) refl)
 
   -- The writer's four ways.
-  is-out : IsLift c out.told out.output
+  is-out : IsLiftWithin c out.told out.output
   unfolding unwritable must first_of writer_call
   is-out = plainly (unplain_at k cs) refl
     where
@@ -245,18 +246,18 @@ module _ (c : LiftCall) (k : Token) (cs : Forest) (p : Parsed (first_call c) k c
       n = length (written_tree k cs)
 
       roomy : unplain_at k cs ≡ none → n ≤ most_tokens → (b : Bool) → leb (5 * n) (length c.output) ≡ b
-          → IsLift c out.told out.output
+          → IsLiftWithin c out.told out.output
       roomy plain few true e = is-written plain few (leb-true (5 * n) _ e) (too_deep c.to.limit (written_tree k cs)) refl
       roomy plain few false e =
           let short = leb-false (5 * n) (length c.output) e in
-          of_output can.reads plain few short (not-out 15 0 ((writer-tells p writing got).no_room plain few short))
+          by_output can.reads plain few short (not-out 15 0 ((writer-tells p writing got).no_room plain few short))
 
-      fewer : unplain_at k cs ≡ none → (b : Bool) → leb n most_tokens ≡ b → IsLift c out.told out.output
+      fewer : unplain_at k cs ≡ none → (b : Bool) → leb n most_tokens ≡ b → IsLiftWithin c out.told out.output
       fewer plain true e = roomy plain (leb-true n most_tokens e) (leb (5 * n) (length c.output)) refl
       fewer plain false e =
           is-unwritten 14 0 ((writer-tells p writing got).too_many plain (leb-false n most_tokens e)) (rw (plain, e) refl)
 
-      plainly : (o : Option ℕ) → unplain_at k cs ≡ o → IsLift c out.told out.output
+      plainly : (o : Option ℕ) → unplain_at k cs ≡ o → IsLiftWithin c out.told out.output
       plainly (some i) e = is-unwritten 13 i ((writer-tells p writing got).unplain i e) (rw e refl)
       plainly none e = fewer e (leb n most_tokens) refl
 
@@ -273,13 +274,13 @@ unfolding same_told are_same
 trees-same p q = rw (tree-front p, tree-front q) refl
 
 -- THE LIFT.
-pub lift-is : (c : LiftCall) → IsLift c (lift_left c).told (lift_left c).output
+pub lift-within : (c : LiftCall) → IsLiftWithin c (lift_left c).told (lift_left c).output
 unfolding lift_left by_room after_first after_second or_written_out stopped handed answered told
-lift-is c = by (room_refusal c) refl
+lift-within c = by (room_refusal c) refl
   where
     compared : (k : Token) (cs : Forest) (free : room_refusal c ≡ none) (can : CanCome c.from c.to c.list k cs) (a : Answer)
         → own_reading c.to.version c.list ≡ a
-        → IsLift c (lift_left c).told (lift_left c).output
+        → IsLiftWithin c (lift_left c).told (lift_left c).output
     compared k cs free can a g =
         let p = first-parsed c free can.accepted k cs can.reads in
         let within : refusal (second_call (handed c)) ≡ none =
@@ -291,17 +292,17 @@ lift-is c = by (room_refusal c) refl
         beside : (l : Token) (ds : Forest) → Parsed (first_call c) k cs → Parsed (second_call (handed c)) l ds
             → own_reading c.to.version c.list ≡ tree l ds
             → (b : Bool) → are_same (tree k cs) (tree l ds) ≡ b
-            → IsLift c (lift_left c).told (lift_left c).output
+            → IsLiftWithin c (lift_left c).told (lift_left c).output
         beside l ds p q g true e =
             rw (free, p.accepted, p.reads, q.accepted, q.reads, trees-same p q ∙ e)
-            (is_same (is_same_lem c k cs can (rw g e)) refl)
+            (list_stays (is_same_lem c k cs can (rw g e)) refl)
         beside l ds p q g false e =
             rw (free, p.accepted, p.reads, q.accepted, q.reads, trees-same p q ∙ e) (is-out c k cs p can (rw g e))
 
         split : (a : Answer) → own_reading c.to.version c.list ≡ a → Parsed (first_call c) k cs
             → refusal (second_call (handed c)) ≡ none
             → reading (second_call (handed c)) ≡ a
-            → IsLift c (lift_left c).told (lift_left c).output
+            → IsLiftWithin c (lift_left c).told (lift_left c).output
         split (messages ms) g p within reads =
             rw (free, p.accepted, p.reads, within, reads) (is-out c k cs p can (rw g (unfold are_same in refl)))
         split (tree l ds) g p within reads =
@@ -310,30 +311,34 @@ lift-is c = by (room_refusal c) refl
     deep : (k : Token) (cs : Forest) → room_refusal c ≡ none → lift_refusal c.from c.to c.list ≡ none
         → own_reading c.from.version c.list ≡ tree k cs
         → (o : Option ℕ) → too_deep c.to.limit (tokens_of c.list) ≡ o
-        → IsLift c (lift_left c).told (lift_left c).output
+        → IsLiftWithin c (lift_left c).told (lift_left c).output
     deep k cs free a g (some place) d =
         let p = first-parsed c free a k cs g in
         let above : refusal (second_call (handed c)) ≡ some (row 18 place) = second-refusal c free a k cs g ∙ ap (with_number 18) d in
         rw (free, p.accepted, p.reads, above)
-        (is_behind (reason-behind c.from c.to c.list 18 place (too_deep_as_it_is a g d refl)) refl)
+        (list_behind (reason-behind c.from c.to c.list 18 place (too_deep_as_it_is a g d refl)) refl)
     deep k cs free a g none d =
         compared k cs free (record { accepted = a; reads = g; within = d }) (own_reading c.to.version c.list) refl
 
     read_as : room_refusal c ≡ none → lift_refusal c.from c.to c.list ≡ none → (a : Answer)
         → own_reading c.from.version c.list ≡ a
-        → IsLift c (lift_left c).told (lift_left c).output
+        → IsLiftWithin c (lift_left c).told (lift_left c).output
     read_as free a (messages ms) g =
         rw (free, first-refusal c free ∙ a, first_reads c free a ∙ g)
-        (is_messages (reason-behind c.from c.to c.list 0 (length ms) (has_messages a g refl refl)) refl)
+        (list_told (reason-behind c.from c.to c.list 0 (length ms) (has_messages a g refl refl)) refl)
     read_as free a (tree k cs) g = deep k cs free a g (too_deep c.to.limit (tokens_of c.list)) refl
 
     enter : room_refusal c ≡ none → (o : Option Refusal) → lift_refusal c.from c.to c.list ≡ o
-        → IsLift c (lift_left c).told (lift_left c).output
+        → IsLiftWithin c (lift_left c).told (lift_left c).output
     enter free (some r) a =
         rw (free, first-refusal c free ∙ a)
-        (is_behind (reason-behind c.from c.to c.list r.number r.place (refused_list a)) refl)
+        (list_behind (reason-behind c.from c.to c.list r.number r.place (refused_list a)) refl)
     enter free none a = read_as free a (own_reading c.from.version c.list) refl
 
-    by : (o : Option Refusal) → room_refusal c ≡ o → IsLift c (lift_left c).told (lift_left c).output
-    by (some r) e = of_lengths e (rw e refl)
+    by : (o : Option Refusal) → room_refusal c ≡ o → IsLiftWithin c (lift_left c).told (lift_left c).output
+    by (some r) e = by_lengths e (rw e refl)
     by none e = enter e (lift_refusal c.from c.to c.list) refl
+
+-- The definition's lift is told, as the contract says it.
+pub lift-is : (c : LiftCall) → IsLift c (lift_left c).told (lift_left c).output
+lift-is c = within-lift (lift-within c)

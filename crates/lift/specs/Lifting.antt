@@ -1,10 +1,10 @@
 -- The lift of a list over lent buffers (molang's `Lift` says what becomes of the list): its calls of the reader and the writer, what its
 -- caller is told, and what each lent buffer holds after it. It reads twice and writes once; what a reading of the written list would give,
 -- the theorems say.
-use Rattle.std.specs.Prelude.{ℕ, ◌*◌, ◌≤◌, ◌<◌, min, ◌≡◌, Bool, true, false, List, length, take}
+use Rattle.std.specs.Prelude.{ℕ, ◌*◌, ◌<◌, min, ◌≡◌, Bool, true, false, List, length, take}
 use Rattle.std.proofs.Math.Option.{Option, none, some}
 use Rattle.molang.specs.Words.{Refusal}
-use Rattle.molang.specs.Parse.{Call, most_tokens, is_limit, Told, a_tree, some_messages, refused, answered, tree_after, messages_after, work_after}
+use Rattle.molang.specs.Parse.{Call, is_limit, Told, a_tree, some_messages, refused, answered, tree_after, messages_after, work_after}
 use Rattle.molang.specs.WriteEntry.{WriteCall, WriteTold, tokens, unwritten, write_answered, list_after}
 use Rattle.molang.specs.Forest.{Token, Forest}
 use Rattle.molang.specs.Read.{tree as Answer·tree}
@@ -183,16 +183,15 @@ tree_left c = tree_by (room_refusal c) c
 
 -- ---- What that is
 
--- EVERY CALL ENDS IN ONE OF THESE WAYS: it is turned back for its lengths, its output is too short for the tokens that are written (15),
--- or what is told, and what stands in the output where a list came out, is the definition's lift.
+-- EVERY CALL ENDS IN ONE OF THESE WAYS: it is turned back for its lengths, its output is too short for what is written (15), or what is
+-- told, and what stands in the output where a list came out, is the definition's lift.
 pub data IsLift (c : LiftCall) (told : LiftTold) (output : List ℕ) : Type 0 where
   of_lengths : {r : Refusal} → room_refusal c ≡ some r → told ≡ stays_behind r.number r.place → IsLift c told output
   of_output : {k : Token} {cs : Forest} → own_reading c.from.version c.list ≡ Answer·tree k cs → unplain_at k cs ≡ none
-      → length (written_tree k cs) ≤ most_tokens → length c.output < 5 * length (written_tree k cs) → told ≡ stays_behind 15 0
-      → IsLift c told output
+      → length c.output < 5 * length (written_tree k cs) → told ≡ stays_behind 15 0 → IsLift c told output
   is_same : {nodes : ℕ} → lift_of c.from c.to c.list ≡ same → told ≡ stays_same nodes → IsLift c told output
-  is_lifted : {count : ℕ} → lift_of c.from c.to c.list ≡ lifted (take (5 * count) output) → 5 * count ≤ length c.output
-      → told ≡ comes_out count → IsLift c told output
+  is_lifted : {count : ℕ} → lift_of c.from c.to c.list ≡ lifted (take (5 * count) output) → told ≡ comes_out count
+      → IsLift c told output
   is_messages : {records : ℕ} → lift_of c.from c.to c.list ≡ behind 0 records → told ≡ has_messages records → IsLift c told output
   is_behind : {number place : ℕ} → lift_of c.from c.to c.list ≡ behind number place → told ≡ stays_behind number place
       → IsLift c told output

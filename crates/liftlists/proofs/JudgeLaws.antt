@@ -5,7 +5,8 @@ use native.Mathlib.Omega.{arith}
 use lib.ListN.{length, length-replicate}
 use borrow.Author.Tests.{eq-eqb, le-leb, lt-ltb}
 use Rattle.molang.specs.{FirstFailure.{must, first_of}, Words.{Refusal}, Parse.{most_tokens, length_rows}, Lift.{lift_of, same, lifted}}
-use Rattle.lift.specs.Lifting.{LiftCall, room_refusal, LiftTold, IsLift, of_lengths, of_output, is_same, is_lifted, is_messages, is_behind}
+use Rattle.lift.specs.Lifting.{LiftCall, room_refusal, LiftTold}
+use Rattle.lift.proofs.{CallLaws.{told-within}, Within.{IsLiftWithin, by_lengths, by_output, list_stays, list_comes, list_told, list_behind}}
 use Rattle.lift.specs.{declared.Outcome.{Outcome}, Answers.{lift_told, HasLifted}}
 use Rattle.text.specs.Text.{Wrote}
 use Rattle.liftlists.specs.LiftedFile.{is_version_word, file_list, all_words, bytes_of, engine_of, carried_by, carried}
@@ -40,17 +41,17 @@ has_room c r =
     )
     refl
 
-pub becomes : (c : LiftCall) (told : LiftTold) (output : List ℕ) → Roomy c → length output ≡ length c.output → IsLift c told output
+pub becomes : (c : LiftCall) (told : LiftTold) (output : List ℕ) → Roomy c → length output ≡ length c.output → IsLiftWithin c told output
     → HasFate (lift_of c.from c.to c.list) (fate_told told) output
-becomes c told output room size (of_lengths {r} e t) =
+becomes c told output room size (by_lengths {r} e t) =
     let free : ◌≡◌ {A = Option Refusal} (some r) none = sym e ∙ has_room c room in
     let z : ◌≡◌ {A = ℕ} 0 1 = cc in
     absurd (omega arith)
-becomes c told output room size (of_output reads plain few short t) = absurd (omega (arith, room.output_words))
-becomes c told output room size (is_same e t) = rw t e
-becomes c told output room size (is_lifted e fits t) = rw t (e, omega arith)
-becomes c told output room size (is_messages {records} e t) = rw t (record { number = 0; place = records; is = e })
-becomes c told output room size (is_behind {number} {place} e t) = rw t (record { number = number; place = place; is = e })
+becomes c told output room size (by_output reads plain few short t) = absurd (omega (arith, room.output_words))
+becomes c told output room size (list_stays e t) = rw t e
+becomes c told output room size (list_comes e fits t) = rw t (e, omega arith)
+becomes c told output room size (list_told {records} e t) = rw t (record { number = 0; place = records; is = e })
+becomes c told output room size (list_behind {number} {place} e t) = rw t (record { number = number; place = place; is = e })
 
 -- The same by the call's promise.
 pub judged : {c : LiftCall} {r : Outcome} {tree' again' messages' work' output' : List ℕ} → HasLifted c r tree' again' messages' work' output'
@@ -61,7 +62,7 @@ pub judged : {c : LiftCall} {r : Outcome} {tree' again' messages' work' output' 
     → c.to ≡ engine_of to
     → HasFate (lift_of (engine_of from) (engine_of to) c.list) (fate_told (lift_told r)) output'
 judged {c} {r} {output' = output'} has room size from to old new =
-    rw (← old, ← new) (becomes c (lift_told r) output' room size has.lift)
+    rw (← old, ← new) (becomes c (lift_told r) output' room size (told-within has))
 
 -- WHAT IS LAID FOR A LIST
 module _ (opener to : ℕ) (list : List ℕ) (version : opener < 65536) where
