@@ -11,7 +11,7 @@ while :; do
     if flock -n 9; then
       if [ "$1" = rt ] && [ "$2" = must-fail ]; then
         shift 2
-        copy=$(mktemp -d /tmp/mf.XXXXXX)
+        copy=$(mktemp -d)
         cp -a crates crates.txt "$copy/"
         mkdir -p "$copy/target"; for d in target/*; do case "$d" in target/must-fail|target/inc) ;; *) cp -a "$d" "$copy/target/" ;; esac; done
         cd "$copy"
