@@ -5,11 +5,11 @@ use mathlib.Core.{Path.{◌≡◌, refl, sym, ap, ◌∙◌, subst}, Logic.{◌�
 use native.Mathlib.Omega.{arith}
 use lib.ListN.{length, set, length-set, length-append}
 use Rattle.molang.{specs.Forest.{Forest, nil, node, count, size}, specs.Words.{node_words_of, tree_words}, proofs.Trees.{count-size}}
-use Rattle.words.specs.Tokens.{node_length, seven_words}
+use Rattle.words.specs.Tokens.{node_length, node_words}
 use Rattle.nodes.specs.Store.{wd, slot_start, slot_end, first_word, next_word, close_word_at, first_at, next_at, TokenAt, Chain, Seg, SegB}
 use Rattle.nodes.specs.Stored.{stored_at, token_of_stored}
 use Rattle.nodes.proofs.{Runs.{wd-same, wd-other, seg-keep, seg_b-keep}, Tokens.{token-keep}, Store.{rep-count}}
-use Rattle.buffers.specs.Emit.{Linked, CanEmitNode, NodeEmitted, NodePassed, over, finish, back, down, waits, CanEmit, Emitted}
+use Rattle.buffers.specs.Emit.{Linked, CanEmitNode, NodeEmitted, Stepped, over, finish, back, down, waits, CanEmit, Emitted}
 use Rattle.buffers.proofs.{Runs.{seg-append}, NodeWords.{node-words, node-long}}
 use Rattle.buffers.proofs.Linking.{linked-nil, linked-unique, linked-none, linked-open, linked-chain, linked-follow}
 
@@ -175,7 +175,7 @@ module _ (W : List ℕ) (first to stack : ℕ) (p : CanEmit W first to stack) wh
       let own : Seg Z' (to + node_length * nodes) (node_words_of k (count cs))
       =
       subst (λ (l : List ℕ). Seg Z' (to + node_length * nodes) l)
-      (ap (λ (n : ℕ). seven_words (token_of_stored (stored_at Z (slot_start s))) n (close_word_at Z s)) number
+      (ap (λ (n : ℕ). node_words (token_of_stored (stored_at Z (slot_start s))) n (close_word_at Z s)) number
       ∙ node-words Z s k (count cs) token small) (x.words kids.bs chain) in
       let same : (j : ℕ) → j < stack → wd Z' j ≡ wd W j = λ j h. x.same j (inl (omega arith)) ∙ g.same j h in
       let older : Seg Z' to g.done = seg-keep Z Z' to g.done (λ j a b. x.same j (inl (omega (arith, g.count)))) g.written in
@@ -262,7 +262,7 @@ module _ (W : List ℕ) (first to stack : ℕ) (p : CanEmit W first to stack) wh
 
   moved : {Z : List ℕ} {s top nodes fuel next top' : ℕ} {Z' : List ℕ} {ws : List ℕ} {fs : List Forest} → top < to
       → Between Z s nodes fuel fs → Wait W p.hi ws fs
-      → SegB Z stack ws → top ≡ stack + length ws → NodePassed Z (first_at Z s) (next_at Z s) stack top next top' Z'
+      → SegB Z stack ws → top ≡ stack + length ws → Stepped Z (first_at Z s) (next_at Z s) stack top next top' Z'
       → EmitAt Z' next top' nodes fuel
   moved {ws = ws} {fs = fs} high v wait held at (over e leaf some) =
       record {
@@ -322,14 +322,14 @@ module _ (W : List ℕ) (first to stack : ℕ) (p : CanEmit W first to stack) wh
 
   pub emit-step : {Z Z' Z'' : List ℕ} {s top nodes fuel next top' : ℕ} → EmitAt Z s top nodes fuel → s ≢ 0
       → NodeEmitted Z s (to + node_length * nodes) Z'
-      → NodePassed Z' (first_at Z s) (next_at Z s) stack top next top' Z'' → EmitAt Z'' next top' (nodes + 1) (fuel - 1)
+      → Stepped Z' (first_at Z s) (next_at Z s) stack top next top' Z'' → EmitAt Z'' next top' (nodes + 1) (fuel - 1)
   emit-step {Z} {Z'} {Z''} {s} {top} {nodes} {fuel} {next} {top'} v n x y =
       let turn = emit-in v n in
       let high = turn.high in
       let below = turn.node.below in
       let first : first_at Z' s ≡ first_at Z s = x.same (first_word s) (inl (omega arith)) in
       let after : next_at Z' s ≡ next_at Z s = x.same (next_word s) (inl (omega arith)) in
-      let stepped : NodePassed Z' (first_at Z' s) (next_at Z' s) stack top next top' Z'' = rw (first, after) y in
+      let stepped : Stepped Z' (first_at Z' s) (next_at Z' s) stack top next top' Z'' = rw (first, after) y in
       let held = seg_b-keep Z Z' stack v.ws (λ j a b. x.same j (inl (omega (arith, v.at)))) v.held in
       moved high (between v.f v.current n v.progress x) v.wait held v.at stepped
 

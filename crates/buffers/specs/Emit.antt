@@ -4,7 +4,7 @@ use Rattle.std.specs.Prelude.{ℕ, ◌+◌, ◌*◌, ◌-◌, ◌^◌, ◌≤◌
 use Rattle.molang.specs.Forest.{Forest, size}
 use Rattle.molang.specs.Words.{tree_words}
 use Rattle.molang.specs.Parse.{most_tokens, in_front}
-use Rattle.words.specs.Tokens.{node_length, seven_words}
+use Rattle.words.specs.Tokens.{node_length, node_words}
 use Rattle.nodes.specs.Store.{wd, slot_start, slot_end, close_word_at, first_at, Chain, Seg, RepF}
 use Rattle.nodes.specs.Stored.{stored_at, token_of_stored}
 use Rattle.nodes.specs.Children.{CanFollow}
@@ -28,7 +28,7 @@ pub record CanEmitNode (W : List ℕ) (s at : ℕ) : Type 0 where
 -- The node's words stand from `at` on; all other words are as they were.
 pub record NodeEmitted (W : List ℕ) (s at : ℕ) (W' : List ℕ) : Type 0 where
   pub words : (cs : List ℕ) → Chain W (first_at W s) cs
-      → Seg W' at (seven_words (token_of_stored (stored_at W (slot_start s))) (length cs) (close_word_at W s))
+      → Seg W' at (node_words (token_of_stored (stored_at W (slot_start s))) (length cs) (close_word_at W s))
   pub same : (j : ℕ) → (j < at) ⊎ (at + node_length ≤ j) → wd W' j ≡ wd W j
   pub long : length W' ≡ length W
 
@@ -36,13 +36,13 @@ pub record NodeEmitted (W : List ℕ) (s at : ℕ) (W' : List ℕ) : Type 0 wher
 
 -- The node after one with this first child and next sibling, the top after it and the words after it, those that wait standing from `stack`
 -- to `top`.
-pub data NodePassed (W : List ℕ) (child sibling stack top : ℕ) : ℕ → ℕ → List ℕ → Type 0 where
-  over : {next : ℕ} → next ≡ sibling → child ≡ 0 → next ≢ 0 → NodePassed W child sibling stack top next top W
-  finish : {next : ℕ} → next ≡ sibling → child ≡ 0 → next ≡ 0 → top ≡ stack → NodePassed W child sibling stack top next top W
-  back : {next : ℕ} → next ≡ wd W (top - 1) → child ≡ 0 → sibling ≡ 0 → top ≢ stack → NodePassed W child sibling stack top next (top - 1) W
-  down : {next : ℕ} → next ≡ child → next ≢ 0 → sibling ≡ 0 → NodePassed W child sibling stack top next top W
+pub data Stepped (W : List ℕ) (child sibling stack top : ℕ) : ℕ → ℕ → List ℕ → Type 0 where
+  over : {next : ℕ} → next ≡ sibling → child ≡ 0 → next ≢ 0 → Stepped W child sibling stack top next top W
+  finish : {next : ℕ} → next ≡ sibling → child ≡ 0 → next ≡ 0 → top ≡ stack → Stepped W child sibling stack top next top W
+  back : {next : ℕ} → next ≡ wd W (top - 1) → child ≡ 0 → sibling ≡ 0 → top ≢ stack → Stepped W child sibling stack top next (top - 1) W
+  down : {next : ℕ} → next ≡ child → next ≢ 0 → sibling ≡ 0 → Stepped W child sibling stack top next top W
   waits : {next wait : ℕ} → next ≡ child → next ≢ 0 → wait ≡ sibling → wait ≢ 0
-      → NodePassed W child sibling stack top next (top + 1) (set W top wait)
+      → Stepped W child sibling stack top next (top + 1) (set W top wait)
 
 -- ---- `emit`
 

@@ -2,7 +2,7 @@
 // clearing of the work buffer. Leans on nodes and words.
 ghost use Rattle.std.specs.Prelude.{◌≡◌, ◌+◌, ◌*◌, ◌^◌, ◌≤◌, ◌<◌, length, take, drop, replicate};
 ghost use Rattle.molang.specs.Parse.{in_front};
-ghost use Rattle.buffers.specs.Emit.{CanEmitNode, NodeEmitted, NodePassed, CanEmit, Emitted, CanLayOut, LaidOut};
+ghost use Rattle.buffers.specs.Emit.{CanEmitNode, NodeEmitted, Stepped, CanEmit, Emitted, CanLayOut, LaidOut};
 
 use nodes::{children, slots};
 use words::fields;
@@ -28,7 +28,7 @@ fn emit_node(work: &mut [u32], s: u32, at: usize)
 // one that waits. Those that wait stand in the words from `stack` up to `top`. `emit` has counted both.
 fn node_after(work: &mut [u32], first: u32, next: u32, stack: usize, top: usize) -> After
     requires { (stack ≤ top) × (top < length work.old) }
-    ensures { NodePassed work.old first next stack top result.next result.top work.new }
+    ensures { Stepped work.old first next stack top result.next result.top work.new }
 {
     if first == 0 {
         if next != 0 {

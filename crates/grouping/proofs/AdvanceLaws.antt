@@ -10,7 +10,7 @@ use Rattle.levels.specs.Sides.{Holds, Waits}
 use Rattle.levels.specs.Turns.{SameList, Within, CanTurn, turns_left, Begins, TurnTo, goes, enters, ends, fails, Turned}
 use Rattle.levels.specs.{declared.failure.Failure.{Failure}, declared.turns.Walk.{Walk}, declared.turns.Turn.{Turn}}
 use Rattle.levels.specs.declared.turns.Turn.TheVariants.{On, Enter, Over, Fail}
-use Rattle.grouping.specs.Driver.{RoomBehind, WaitingLists, Full, Going, turns_below, Beyond, NextTo, CanDescend, Descended, CanCloseList, Closed}
+use Rattle.grouping.specs.Driver.{Room, Stack, Full, Going, turns_below, Beyond, NextTo, CanDescend, Descended, CanClose, Closed}
 use Rattle.grouping.specs.{Driver.{CanAdvance, Advanced}, declared.driver.Next.{Next}}
 use Rattle.grouping.specs.declared.driver.Next.TheVariants.{On as Onward, Fail as Stopped}
 use Rattle.grouping.proofs.StackLaws.{Bounds, stack-bounds, stack-keep, top-beyond, beyond-then}
@@ -52,7 +52,7 @@ module _ {W W1 : List ℕ} {w : Walk} {base0 : ℕ} (g : CanAdvance W w base0) (
       (le_refl g.going.hi) x)
       (inl y)
 
-  stack1 : WaitingLists g.κ g.classes W1 base0 g.hi0 g.going.X w.list.owner g.going.lo g.going.hi w.list.base g.S
+  stack1 : Stack g.κ g.classes W1 base0 g.hi0 g.going.X w.list.owner g.going.lo g.going.hi w.list.base g.S
   stack1 =
       let below = g.going.holds.sides.below in
       stack-keep W W1 g.going.some g.going.stack same1
@@ -61,9 +61,9 @@ module _ {W W1 : List ℕ} {w : Walk} {base0 : ℕ} (g : CanAdvance W w base0) (
       turned-within.long
 
   stack_of : {w' : Walk} → SameList w w'
-      → WaitingLists g.κ g.classes W1 base0 g.hi0 g.going.X w'.list.owner g.going.lo g.going.hi w'.list.base g.S
+      → Stack g.κ g.classes W1 base0 g.hi0 g.going.X w'.list.owner g.going.lo g.going.hi w'.list.base g.S
   stack_of l =
-      subst₂ (λ (x : ℕ) (y : ℕ). WaitingLists g.κ g.classes W1 base0 g.hi0 g.going.X x g.going.lo g.going.hi y g.S)
+      subst₂ (λ (x : ℕ) (y : ℕ). Stack g.κ g.classes W1 base0 g.hi0 g.going.X x g.going.lo g.going.hi y g.S)
       (sym l.owner) (sym l.base) stack1
 
   pub turned-beyond : Beyond W W1 base0 g.hi0
@@ -72,7 +72,7 @@ module _ {W W1 : List ℕ} {w : Walk} {base0 : ℕ} (g : CanAdvance W w base0) (
   -- the same list, further on
   going_on : {w' : Walk} {s' : State g.κ} {rest' : Forest} → SameList w w'
       → Holds g.κ W1 (w.list.owner ∷ g.going.X) g.going.lo g.going.hi w' s' rest'
-      → work g.κ g.s g.rest ≡ work g.κ s' rest' → RoomBehind W1 w'.list rest'
+      → work g.κ g.s g.rest ≡ work g.κ s' rest' → Room W1 w'.list rest'
       → Going g.κ g.classes W1 base0 g.hi0 w' g.S s' rest'
   going_on {w'} {s'} {rest'} l v e room =
       record {
@@ -186,7 +186,7 @@ module _ {W W1 : List ℕ} {w : Walk} {base0 : ℕ} (g : CanAdvance W w base0) w
     Ending : Type 0
     Ending = TurnTo g.κ W1 (w.list.owner ∷ g.going.X) g.going.lo g.going.hi w g.s g.rest (Over w')
 
-    closes : Ending → CanCloseList W1 w' base0
+    closes : Ending → CanClose W1 w' base0
     unfolding Ending count size
     closes (ends {s' = s'} same v idle e) =
         let within = v.sides.within in
@@ -200,7 +200,7 @@ module _ {W W1 : List ℕ} {w : Walk} {base0 : ℕ} (g : CanAdvance W w base0) w
           idle = idle;
         }
 
-    pub advance-can-close : CanCloseList W1 w' base0
+    pub advance-can-close : CanClose W1 w' base0
     advance-can-close = unfold Ending in closes (turned-to g (Over w') turned)
 
     module _ (x : Next) (W2 : List ℕ) (closed : Closed W1 w' base0 x W2) where

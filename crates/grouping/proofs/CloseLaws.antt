@@ -19,7 +19,7 @@ use Rattle.levels.specs.{declared.failure.Failure.{Failure}, declared.turns.Pass
 use Rattle.levels.specs.{declared.turns.Walk.{Walk}, declared.turns.Finished.{Finished}}
 use Rattle.levels.specs.declared.turns.Finished.TheVariants.{At, Fail as Failed}
 use Rattle.levels.proofs.States.{split-none, split-some}
-use Rattle.grouping.specs.Driver.{FrameOf, WaitingLists, bottom, over, Full, Going, turns_below, Beyond, CanMove, WordsMoved, NextTo, CanCloseList}
+use Rattle.grouping.specs.Driver.{FrameOf, Stack, bottom, over, Full, Going, turns_below, Beyond, CanMove, Moved, NextTo, CanClose}
 use Rattle.grouping.specs.{Driver.{Closed}, declared.driver.Next.TheVariants.{On, Done, Fail}}
 use Rattle.grouping.proofs.StackLaws.{Bounds, stack-bounds, stack-keep, top-beyond, beyond-then}
 use Rattle.grouping.proofs.OutermostLaws.{give-outermost, move-outermost}
@@ -60,7 +60,7 @@ takes-waits (binary ops) t k kids = le_refl 0
 
 -- ---- the end of the list
 
-pub close-can-finish : {W : List ℕ} {w : Walk} {base0 : ℕ} → CanCloseList W w base0 → CanFinish W w
+pub close-can-finish : {W : List ℕ} {w : Walk} {base0 : ℕ} → CanClose W w base0 → CanFinish W w
 close-can-finish {w = w} g =
     record {
       κ = g.κ;
@@ -91,7 +91,7 @@ failed-next : {κ : Kind} {classes : ℕ} {W' X : List ℕ} {lo hi base0 hi0 : �
 failed-next {κ} S turns (fails {ms = ms} t e) = NextTo.fails (ap (unwound κ S) e ∙ unwound-fail κ S ms) t
 
 module _ {W W1 : List ℕ} {w : Walk} {base0 : ℕ} (r : Finished) (ended : Ends W w r W1) where
-  finished-beyond : (g : CanCloseList W w base0) → Beyond W W1 base0 g.hi0
+  finished-beyond : (g : CanClose W w base0) → Beyond W W1 base0 g.hi0
   unfolding close-can-finish
   finished-beyond g =
       let within = ended.within (close-can-finish g) in
@@ -135,11 +135,11 @@ pub record TopFrame (κ : Kind) (classes : ℕ) (W : List ℕ) (base0 hi0 : ℕ)
   pub around : X ≡ wait.list.owner ∷ X'
   pub lists : S ≡ held t k rest ∷ S'
   pub above : base ≡ wait.list.base + wait.list.len + 6
-  pub stack : WaitingLists κ classes W base0 hi0 X' wait.list.owner lo' hi' wait.list.base S'
+  pub stack : Stack κ classes W base0 hi0 X' wait.list.owner lo' hi' wait.list.base S'
   pub frame : FrameOf κ classes W (wait.list.owner ∷ X') lo' lo hi hi' wait owner t k rest
 
 top_frame : {κ : Kind} {classes : ℕ} {W : List ℕ} {base0 hi0 : ℕ} {X : List ℕ} {owner lo hi base : ℕ} {S : List (Held κ)}
-    → base ≢ base0 → WaitingLists κ classes W base0 hi0 X owner lo hi base S → TopFrame κ classes W base0 hi0 X owner lo hi base S
+    → base ≢ base0 → Stack κ classes W base0 hi0 X owner lo hi base S → TopFrame κ classes W base0 hi0 X owner lo hi base S
 top_frame n bottom = absurd (n refl)
 top_frame n (over {X = X} {lo = lo} {hi = hi} {w = w} {t = t} {k = k} {rest = rest} {S = S} s f) =
     record {
@@ -161,14 +161,14 @@ top_frame n (over {X = X} {lo = lo} {hi = hi} {w = w} {t = t} {k = k} {rest = re
 -- at the outermost list
 outermost : {κ : Kind} {classes : ℕ} {W W1 W2 W3 : List ℕ} {base0 hi0 : ℕ} {X : List ℕ} {owner lo hi base from n : ℕ} {S : List (Held κ)}
     {f : Forest} {r : Result} (turns : ℕ)
-    → 0 < hi0 → base ≡ base0 → r ≡ ok f → WaitingLists κ classes W base0 hi0 X owner lo hi base S → InArray W1 (owner ∷ X) from n lo hi f
-    → Given W1 owner from n W2 → WordsMoved W2 from n base W3
+    → 0 < hi0 → base ≡ base0 → r ≡ ok f → Stack κ classes W base0 hi0 X owner lo hi base S → InArray W1 (owner ∷ X) from n lo hi f
+    → Given W1 owner from n W2 → Moved W2 from n base W3
     → slot_start hi ≤ base → base ≤ from → NextTo κ classes W3 base0 hi0 (unwound κ S r) turns (Done n)
 unfolding unwound
 outermost turns h e q bottom v gv mv below down = NextTo.ends q (move-outermost mv (give-outermost gv v h (omega arith)) h below)
 outermost turns h e q (over s f) v gv mv below down = absurd (omega (arith, (stack-bounds h s).based))
 
-module _ {W W1 : List ℕ} {w : Walk} {base0 from n : ℕ} (g : CanCloseList W w base0) (ended : Ends W w (At from n) W1) where
+module _ {W W1 : List ℕ} {w : Walk} {base0 from n : ℕ} (g : CanClose W w base0) (ended : Ends W w (At from n) W1) where
   pub gave : Gives g.κ W1 (w.list.owner ∷ g.going.X) g.going.lo g.going.hi w.list g.s from n
   gave = unfold close-can-finish in given (ended.to (close-can-finish g))
 
@@ -209,7 +209,7 @@ module _ {W W1 : List ℕ} {w : Walk} {base0 from n : ℕ} (g : CanCloseList W w
         ∙ finished-within.kept (slot_start w.list.owner + o)
         (free_own w.list.owner g.going.X g.going.lo g.going.hi o (omega arith)) (inl (omega (arith, bounds.high)))
 
-    stack2 : WaitingLists g.κ g.classes W2 base0 g.hi0 g.going.X w.list.owner g.going.lo g.going.hi w.list.base g.S
+    stack2 : Stack g.κ g.classes W2 base0 g.hi0 g.going.X w.list.owner g.going.lo g.going.hi w.list.base g.S
     stack2 = stack-keep W W2 g.going.some g.going.stack same2 own2 long2
 
     beyond2 : Beyond W W2 base0 g.hi0
@@ -220,7 +220,7 @@ module _ {W W1 : List ℕ} {w : Walk} {base0 from n : ℕ} (g : CanCloseList W w
         let within = g.going.holds.sides.within in
         record { down = gave.low; within = omega (arith, gave.high, long2) }
 
-    module _ {W3 : List ℕ} (mv : WordsMoved W2 from n w.list.base W3) where
+    module _ {W3 : List ℕ} (mv : Moved W2 from n w.list.base W3) where
       next-done : w.list.base ≡ base0
           → NextTo g.κ g.classes W3 base0 g.hi0 (unwound g.κ g.S (work g.κ g.s nil)) (turns_below g.κ g.S)
           (Done n)
@@ -327,7 +327,7 @@ module _ {W W1 : List ℕ} {w : Walk} {base0 from n : ℕ} (g : CanCloseList W w
               (le_refl top.hi') x)
               (inl y)
 
-          stack3 : WaitingLists g.κ g.classes W3 base0 g.hi0 top.X' top.wait.list.owner top.lo' top.hi'
+          stack3 : Stack g.κ g.classes W3 base0 g.hi0 top.X' top.wait.list.owner top.lo' top.hi'
               top.wait.list.base top.S'
           stack3 =
               let below = top.frame.waiting.sides.below in
@@ -362,7 +362,7 @@ module _ {W W1 : List ℕ} {w : Walk} {base0 from n : ℕ} (g : CanCloseList W w
                 lo = top.lo';
                 hi = top.hi';
                 stack =
-                    subst₂ (λ (x : ℕ) (y : ℕ). WaitingLists g.κ g.classes W3 base0 g.hi0 top.X' x top.lo' top.hi' y top.S')
+                    subst₂ (λ (x : ℕ) (y : ℕ). Stack g.κ g.classes W3 base0 g.hi0 top.X' x top.lo' top.hi' y top.S')
                     (sym l.owner) (sym l.base) stack3;
                 holds =
                     subst
@@ -393,7 +393,7 @@ pub ended_at : {W W1 : List ℕ} {w : Walk} (r q : Finished) → r ≡ q → End
 ended_at {W} {W1} {w} r q e x = subst (λ (y : Finished). Ends W w y W1) e x
 
 pub closed-done : {W W1 W2 W3 : List ℕ} {w : Walk} {base0 from n : ℕ} → Ends W w (At from n) W1 → Given W1 w.list.owner from n W2
-    → WordsMoved W2 from n w.list.base W3 → w.list.base ≡ base0
+    → Moved W2 from n w.list.base W3 → w.list.base ≡ base0
     → Closed W w base0 (Done n) W3
 closed-done ended gv mv e = record { to = λ g. next-done g ended gv mv e; beyond = λ g. done-beyond g ended gv mv e }
 

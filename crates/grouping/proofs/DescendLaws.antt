@@ -13,7 +13,7 @@ use Rattle.levels.{specs.Passes.{return_pass}, specs.Sides.{ArraySide, DoneSide,
 use Rattle.levels.{specs.Turns.{lent_of, Begins, afresh, lent}, specs.declared.turns.Pass.{Pass}}
 use Rattle.levels.specs.declared.turns.Pass.TheVariants.{Calls, MathCalls, Unsplit, Split, Arrays, Unary, Binary, Conditional, Returns}
 use Rattle.levels.{specs.declared.turns.Walk.{Walk}, proofs.States.{sides-of}}
-use Rattle.grouping.specs.Driver.{FrameOf, WaitingLists, over, Going, Beyond, CanOpen, Opened, CanDescend, Descended}
+use Rattle.grouping.specs.Driver.{FrameOf, Stack, over, Going, Beyond, CanOpen, Opened, CanDescend, Descended}
 use Rattle.grouping.proofs.SideLaws.{open-array-keep}
 use Rattle.grouping.proofs.StackLaws.{waits-keep, waits-within, stack-bounds, stack-within, stack-keep, top-beyond}
 use Rattle.grouping.proofs.{StartLaws.{begins-low}, Lasting.{begun-full, lent-full}}
@@ -196,7 +196,7 @@ module _ {W : List ℕ} {w : Walk} {item : ℕ} (g : CanDescend W w item) where
             room = rw long-opened g.room;
           }
 
-      descend-stack : WaitingLists g.κ g.classes W2 g.base0 g.hi0 (w.list.owner ∷ g.X) item g.l g.m
+      descend-stack : Stack g.κ g.classes W2 g.base0 g.hi0 (w.list.owner ∷ g.X) item g.l g.m
           (w.list.base + w.list.len + 6) (held g.t g.k g.rest ∷ g.S)
       descend-stack =
           let bounds = stack-bounds some-slot g.stack in
@@ -223,7 +223,7 @@ module _ {W : List ℕ} {w : Walk} {item : ℕ} (g : CanDescend W w item) where
             hi = g.m;
             stack =
                 subst₂
-                (λ (x : ℕ) (y : ℕ). WaitingLists g.κ g.classes W2 g.base0 g.hi0 (w.list.owner ∷ g.X) x g.l g.m y
+                (λ (x : ℕ) (y : ℕ). Stack g.κ g.classes W2 g.base0 g.hi0 (w.list.owner ∷ g.X) x g.l g.m y
                 (held g.t g.k g.rest ∷ g.S))
                 (sym owned) (sym based) descend-stack;
             holds =

@@ -12,7 +12,7 @@ use Rattle.ops.specs.Classes.{shares}
 use Rattle.nodes.{specs.Store.{slot_end, classes_at}, proofs.Classes.{notes-meet}}
 use Rattle.levels.{specs.Passes.{classes_of, operators}, specs.declared.turns.Pass.{Pass}, proofs.PassClasses.{runs-covers}}
 use Rattle.order.specs.{declared.Choice.{Choice}, declared.Choice.TheVariants.{Run, Skip}}
-use Rattle.grouping.specs.{Driver.{CanRun, done, HasRun}, Choice.{CanChoose, HasChosen}, declared.driver.Ran.{Ran}}
+use Rattle.grouping.specs.{Driver.{CanRun, done, HasRun}, Choice.{CanChoose, Chosen}, declared.driver.Ran.{Ran}}
 use Rattle.grouping.specs.declared.driver.Ran.TheVariants.{Done}
 
 -- 'No masks' for the passes that go through nested lists.
@@ -48,11 +48,11 @@ pub chosen-can-run : {W : List ℕ} {base n : ℕ} (c : Choice) (p : Pass) → c
 chosen-can-run {W} {base} {n} c p e h = subst (λ (x : Choice). CanChoose W base n x) e h
 
 pub chosen-run : {W W' : List ℕ} {base n : ℕ} {r : Ran} (c : Choice) (p : Pass) → c ≡ Run p → HasRun W base n p r W'
-    → HasChosen W base n c r W'
-chosen-run {W} {W'} {base} {n} {r} c p e h = subst (λ (x : Choice). HasChosen W base n x r W') (sym e) h
+    → Chosen W base n c r W'
+chosen-run {W} {W'} {base} {n} {r} c p e h = subst (λ (x : Choice). Chosen W base n x r W') (sym e) h
 
-pub chosen-skip : (W : List ℕ) (base n : ℕ) (c : Choice) → c ≡ Skip → HasChosen W base n c (Done n) W
-chosen-skip W base n c e = subst (λ (x : Choice). HasChosen W base n x (Done n) W) (sym e) (refl, refl)
+pub chosen-skip : (W : List ℕ) (base n : ℕ) (c : Choice) → c ≡ Skip → Chosen W base n c (Done n) W
+chosen-skip W base n c e = subst (λ (x : Choice). Chosen W base n x (Done n) W) (sym e) (refl, refl)
 
 -- slot 0 is within the words
 pub root-within : {W : List ℕ} {base n : ℕ} {p : Pass} → CanRun W base n p → slot_end 0 ≤ length W

@@ -12,10 +12,10 @@ use Rattle.nodes.{specs.Children.{CanGive}, proofs.Trees.{array-give}}
 use Rattle.levels.specs.{Turns.{lent_of}, declared.failure.Failure.{Failure}, declared.turns.Pass.{Pass as State}}
 use Rattle.grouping.specs.{Grouped.{tells, StandsFor, roots, failed, pointer_failed}, declared.grouped.Grouped.{Grouped}}
 use Rattle.grouping.specs.declared.grouped.Grouped.TheVariants.{Roots, Failed, Mismatched, Unclosed, PointerFailed}
-use Rattle.grouping.specs.{Driver.{Outermost, CanRun, RanTo, done}, Choice.{CanChoose, HasChosen}}
+use Rattle.grouping.specs.{Driver.{Outermost, CanRun, RanTo, done}, Choice.{CanChoose, Chosen}}
 use Rattle.grouping.specs.{Group.{CanGroup, HasGrouped, Listed, Flattened, CanLevel, Levelled}, declared.driver.Ran.{Ran}}
 use Rattle.grouping.specs.declared.driver.Ran.TheVariants.{Done, Fail}
-use Rattle.order.{specs.Ranks.{used_by, rules_at, later, Starts, Chosen as Picked}, specs.declared.Choice.{Choice}}
+use Rattle.order.{specs.Ranks.{used_by, rules_of, later, Starts, Chosen as Picked}, specs.declared.Choice.{Choice}}
 use Rattle.order.{specs.declared.Choice.TheVariants.{Run, Skip}, proofs.Folding.{grouped-last, grouped-skip, RankRuns, rank-runs}}
 use Rattle.order.specs.Ranks as starts
 use Rattle.grouping.specs.Driver as driver
@@ -47,9 +47,9 @@ starts-unlent (starts.plus e) = refl
 starts-unlent (starts.level e) = refl
 
 -- what a rank left, as the arm of the `match` knows it
-pub chosen-as : (W : List ℕ) (base n : ℕ) (c : Choice) (x : Ran) (W' : List ℕ) {y : Ran} → x ≡ y → HasChosen W base n c x W'
-    → HasChosen W base n c y W'
-chosen-as W base n c x W' e h = subst (λ (r : Ran). HasChosen W base n c r W') e h
+pub chosen-as : (W : List ℕ) (base n : ℕ) (c : Choice) (x : Ran) (W' : List ℕ) {y : Ran} → x ≡ y → Chosen W base n c x W'
+    → Chosen W base n c y W'
+chosen-as W base n c x W' e h = subst (λ (r : Ran). Chosen W base n c r W') e h
 
 -- What holds before rank k: the outermost list F of n items, and the answer over a source of length l.
 pub record LevelAt (W₀ : List ℕ) (base m : ℕ) (u : ℕ → Bool) (r : Rules) (g : CanLevel W₀ base m) (l : ℕ) (W : List ℕ) (k n : ℕ)
@@ -90,7 +90,7 @@ module _ {W₀ : List ℕ} {base m : ℕ} {u : ℕ → Bool} {r : Rules} {g : Ca
 
   -- the pass went through, or there was none
   pub level-on : LevelAt W₀ base m u r g l W k n → (c : Choice) → Picked u (drop k (later r)) c → {W' : List ℕ} (left : ℕ)
-      → HasChosen W base n c (Done left) W'
+      → Chosen W base n c (Done left) W'
       → LevelAt W₀ base m u r g l W' (k + 1) left
   level-on v Skip c {W'} left h =
       let same : left ≡ n = cc in
@@ -113,7 +113,7 @@ module _ {W₀ : List ℕ} {base m : ℕ} {u : ℕ → Bool} {r : Rules} {g : Ca
 
   -- the pass failed: the pointer's, which leaves the list empty, or another's
   pub level-pointer : LevelAt W₀ base m u r g l W k n → (c : Choice) → Picked u (drop k (later r)) c → {W' : List ℕ} (f : Failure)
-      → HasChosen W base n c (Fail f) W'
+      → Chosen W base n c (Fail f) W'
       → k ≡ 3 → StandsFor W' (3 * g.n + 3) g.n l (PointerFailed f) (grouped l u (drop 3 (order r)) [] g.F)
   level-pointer v Skip c f h at = let z : ◌≡◌ {A = ℕ} 0 1 = cc in absurd (omega arith)
   level-pointer v (Run state) c {W'} f h at = fell (h.to (level-run v state c))
@@ -125,7 +125,7 @@ module _ {W₀ : List ℕ} {base m : ℕ} {u : ℕ → Bool} {r : Rules} {g : Ca
           (sym (v.answer ∙ (rank v state c).pointer-ends ms at e)) (pointer_failed t)
 
   pub level-fails : LevelAt W₀ base m u r g l W k n → (c : Choice) → Picked u (drop k (later r)) c → {W' : List ℕ} (f : Failure)
-      → HasChosen W base n c (Fail f) W'
+      → Chosen W base n c (Fail f) W'
       → k ≢ 3 → StandsFor W' (3 * g.n + 3) g.n l (Failed f) (grouped l u (drop 3 (order r)) [] g.F)
   level-fails v Skip c f h other = let z : ◌≡◌ {A = ℕ} 0 1 = cc in absurd (omega arith)
   level-fails v (Run state) c {W'} f h other = fell (h.to (level-run v state c))
@@ -161,9 +161,9 @@ module _ {W W1 : List ℕ} {base n : ℕ} {used : OpSet} where
     where
       go : (y : Flat) → Fallen y → Flattened W base n used y W1 → HasGrouped W base n used version (end_of y) W1
       go (Items m) d w = absurd d
-      go (FlatFail f) d w = record { to = λ g l. w.to g l (drop 3 (order (rules_at version))); long = w.long }
-      go (FlatMismatched f) d w = record { to = λ g l. w.to g l (drop 3 (order (rules_at version))); long = w.long }
-      go (FlatUnclosed f) d w = record { to = λ g l. w.to g l (drop 3 (order (rules_at version))); long = w.long }
+      go (FlatFail f) d w = record { to = λ g l. w.to g l (drop 3 (order (rules_of version))); long = w.long }
+      go (FlatMismatched f) d w = record { to = λ g l. w.to g l (drop 3 (order (rules_of version))); long = w.long }
+      go (FlatUnclosed f) d w = record { to = λ g l. w.to g l (drop 3 (order (rules_of version))); long = w.long }
 
   module _ (x : Flat) (m : ℕ) (e : x ≡ Items m) (w : Flattened W base n used x W1) where
     left : (g : CanGroup W base n) (l : ℕ) (ps : List Pass)
@@ -200,7 +200,7 @@ module _ {W W1 : List ℕ} {base n : ℕ} {used : OpSet} where
       group-done {W3} {r} {version} v =
           record {
             to = λ g l.
-                let ps = drop 3 (order (rules_at version)) in
+                let ps = drop 3 (order (rules_of version)) in
                 subst (λ (a : Answer). StandsFor W3 (3 * n + 3) n l r a) (sym (left g l ps).is) (v.to (levels-on g l ps) l);
             long = v.long ∙ given.long ∙ w.long;
           }

@@ -9,7 +9,7 @@ use Rattle.molang.specs.Forest.{Forest}
 use Rattle.nodes.specs.{Store.{wd, first_field, classes_field, slot_start, next_word, first_at, Seg, InArray}, Children.{Taken, Given}}
 use Rattle.nodes.proofs.{Runs.{wd-same, wd-other, off-above, seg-keep, chain-unique}, Store.{rep-lower, rep-keep, links-keep, roots-above}}
 use Rattle.nodes.proofs.Trees.{array_owned}
-use Rattle.grouping.specs.Driver.{Outermost, CanMove, WordsMoved}
+use Rattle.grouping.specs.Driver.{Outermost, CanMove, Moved}
 
 -- slot 0 takes an array, which stays where it is
 pub give-outermost : {W W' : List ℕ} {at n lo hi : ℕ} {f : Forest} → Given W 0 at n W' → InArray W (0 ∷ []) at n lo hi f → 0 < hi
@@ -40,7 +40,7 @@ seg-move W W' at to (c ∷ cs) h s =
     )
 
 -- its items are moved to other words above the slots
-pub move-outermost : {W W' : List ℕ} {from n base hi : ℕ} {f : Forest} → WordsMoved W from n base W' → Outermost W from n hi f → 0 < hi
+pub move-outermost : {W W' : List ℕ} {from n base hi : ℕ} {f : Forest} → Moved W from n base W' → Outermost W from n hi f → 0 < hi
     → slot_start hi ≤ base → Outermost W' base n hi f
 move-outermost {W} {W'} {from} {n} {base} {hi} {f} w v own below =
     let o = v.owned in
@@ -109,5 +109,5 @@ move-on {W} {Z} {from} {n} {base} {i} v more =
         let other = eqb-false k i e in
         wd-other Z (base + i) (wd Z (from + i)) (base + k) (omega arith) ∙ v.words k (omega arith)
 
-pub move-ends : {W Z : List ℕ} {from n base i : ℕ} → Moving W from n base Z i → n ≤ i → WordsMoved W from n base Z
+pub move-ends : {W Z : List ℕ} {from n base i : ℕ} → Moving W from n base Z i → n ≤ i → Moved W from n base Z
 move-ends v h = record { words = λ k x. v.words k (omega (arith, v.some)); same = λ j x. v.same j (inl x); long = v.long }

@@ -10,7 +10,7 @@ use Rattle.molang.specs.Work.{in_reading, pass, Held, unwound}
 use Rattle.molang.proofs.{Trees.{count-size}, Work.{pass-begins, reading-size, reading-count}}
 use Rattle.levels.specs.{Passes.{classes_of, waits}, Sides.{Holds}, Turns.{turns_left, afresh}, declared.failure.Failure.{Failure}}
 use Rattle.levels.specs.{declared.turns.Pass.{Pass}, declared.turns.Walk.{Walk}}
-use Rattle.grouping.specs.Driver.{WaitingLists, bottom, Going, turns_below, Beyond, CanOpen, Opened, CanBegin, Begun, NextTo, CanAdvance}
+use Rattle.grouping.specs.Driver.{Stack, bottom, Going, turns_below, Beyond, CanOpen, Opened, CanBegin, Begun, NextTo, CanAdvance}
 use Rattle.grouping.specs.{Driver.{Advanced, CanRun, RanTo, done, failed, HasRun}, declared.driver.Next.{Next}}
 use Rattle.grouping.specs.declared.driver.Next.TheVariants.{On, Done, Fail}
 use Rattle.grouping.specs.declared.driver.Ran.TheVariants.{Done as Through, Fail as Failed}
@@ -70,7 +70,7 @@ module _ {W W1 : List ℕ} {base n : ℕ} {p : Pass} {w : Walk} (opened : Opened
         lo = 0;
         hi = g.hi;
         stack =
-            subst₂ (λ (x : ℕ) (y : ℕ). WaitingLists g.κ (classes_of w.pass) W1 base g.hi [] x 0 g.hi y []) (sym opened.owned)
+            subst₂ (λ (x : ℕ) (y : ℕ). Stack g.κ (classes_of w.pass) W1 base g.hi [] x 0 g.hi y []) (sym opened.owned)
             (sym opened.based) bottom;
         holds =
             subst (λ (x : ℕ). Holds g.κ W1 (x ∷ []) 0 g.hi w (begins g.κ g.F) (in_reading g.κ g.F)) (sym opened.owned)

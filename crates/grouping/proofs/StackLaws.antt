@@ -10,7 +10,7 @@ use Rattle.nodes.proofs.{Tokens.{token-keep}, Keeping.{free-above, free-beside, 
 use Rattle.levels.specs.Passes.{walk_of, Runs, call, math_call, unsplit_pass, split, array, unary, level, conditional_pass, return_pass}
 use Rattle.levels.{specs.Sides.{RightSide, DoneSide, UnreadSide, AtTurn, InFrame, Holds, Waits}, specs.declared.turns.Pass.{Pass}}
 use Rattle.levels.{specs.declared.turns.Walk.{Walk}, proofs.Reading.{ahead-le, SameSlots, SameWords}}
-use Rattle.grouping.specs.Driver.{FrameOf, WaitingLists, bottom, over, Beyond}
+use Rattle.grouping.specs.Driver.{FrameOf, Stack, bottom, over, Beyond}
 use Rattle.grouping.proofs.SideLaws.{sides-keep}
 
 -- ---- how far a list is read and written
@@ -114,7 +114,7 @@ pub record Bounds (base0 hi0 : ℕ) (X : List ℕ) (owner lo hi base : ℕ) : Ty
   pub out : Out owner X
 
 pub stack-bounds : {κ : Kind} {classes : ℕ} {W : List ℕ} {base0 hi0 : ℕ} {X : List ℕ} {owner lo hi base : ℕ} {S : List (Held κ)}
-    → 0 < hi0 → WaitingLists κ classes W base0 hi0 X owner lo hi base S → Bounds base0 hi0 X owner lo hi base
+    → 0 < hi0 → Stack κ classes W base0 hi0 X owner lo hi base S → Bounds base0 hi0 X owner lo hi base
 stack-bounds {base0 = base0} {hi0} h bottom = record { based = le_refl base0; within = le_refl hi0; low = le_refl 0; high = h; out = tt }
 stack-bounds h (over s f) =
     let e = stack-bounds h s in
@@ -128,14 +128,14 @@ stack-bounds h (over s f) =
 
 -- the slots of the list on top are some of the outermost list's
 pub stack-within : {κ : Kind} {classes : ℕ} {W : List ℕ} {base0 hi0 : ℕ} {X : List ℕ} {owner lo hi base : ℕ} {S : List (Held κ)}
-    → WaitingLists κ classes W base0 hi0 X owner lo hi base S → hi ≤ hi0
+    → Stack κ classes W base0 hi0 X owner lo hi base S → hi ≤ hi0
 stack-within {hi0 = hi0} bottom = le_refl hi0
 stack-within (over s f) = omega (arith, stack-within s, f.waiting.sides.high)
 
 pub stack-keep : (W W' : List ℕ) {κ : Kind} {classes : ℕ} {base0 hi0 : ℕ} {X : List ℕ} {owner lo hi base : ℕ} {S : List (Held κ)}
-    → 0 < hi0 → WaitingLists κ classes W base0 hi0 X owner lo hi base S → ((j : ℕ) → Free X lo hi j → j < base → wd W' j ≡ wd W j)
+    → 0 < hi0 → Stack κ classes W base0 hi0 X owner lo hi base S → ((j : ℕ) → Free X lo hi j → j < base → wd W' j ≡ wd W j)
     → ((o : ℕ) → o < 5 → wd W' (slot_start owner + o) ≡ wd W (slot_start owner + o)) → length W' ≡ length W
-    → WaitingLists κ classes W' base0 hi0 X owner lo hi base S
+    → Stack κ classes W' base0 hi0 X owner lo hi base S
 stack-keep W W' h bottom same own long = bottom
 stack-keep W W' h (over {X = X} {lo = lo} {l = l} {m = m} {hi = hi} {w = w} s f) same own long =
     let e = stack-bounds h s in

@@ -12,6 +12,6 @@ CanChoose W base n (Run p) = CanRun W base n p
 CanChoose W base n Skip = Unit {0}
 
 -- What a choice comes to: what its pass leaves, or nothing.
-abbrev pub HasChosen : List ℕ → ℕ → ℕ → Choice → Ran → List ℕ → Type 0
-HasChosen W base n (Run p) r W' = HasRun W base n p r W'
-HasChosen W base n Skip r W' = (r ≡ Done n) × (W' ≡ W)
+abbrev pub Chosen : List ℕ → ℕ → ℕ → Choice → Ran → List ℕ → Type 0
+Chosen W base n (Run p) r W' = HasRun W base n p r W'
+Chosen W base n Skip r W' = (r ≡ Done n) × (W' ≡ W)

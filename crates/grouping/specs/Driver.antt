@@ -25,8 +25,8 @@ use Rattle.grouping.specs.declared.driver.Ran.TheVariants.{Done as Through, Fail
 -- ---- the stack
 
 -- There are enough words behind the list for what is unread: eight for each node, less the words that its items have in the list.
-abbrev pub RoomBehind : List ℕ → Items → Forest → Type 0
-RoomBehind W v rest = v.base + v.len + 8 * size rest ≤ length W + count rest
+abbrev pub Room : List ℕ → Items → Forest → Type 0
+Room W v rest = v.base + v.len + 8 * size rest ≤ length W + count rest
 
 -- A list that waits for the children of its item b, the token k, which has the slots from l to m: its state, and its frame right above it.
 pub record FrameOf (κ : Kind) (classes : ℕ) (W X : List ℕ) (lo l m hi : ℕ) (w : Walk) (b : ℕ) (t : State κ) (k : Token) (rest : Forest)
@@ -40,16 +40,16 @@ pub record FrameOf (κ : Kind) (classes : ℕ) (W X : List ℕ) (lo l m hi : ℕ
   pub pos : 0 < b
   pub out : Out b X
   pub words : FrameAt W (w.list.base + w.list.len) w.list (held_of w.pass)
-  pub room : RoomBehind W w.list rest
+  pub room : Room W w.list rest
 
 -- The lists that wait below the list of `owner` at base, which has the slots from lo to hi that are neither the owner nor in X. The
 -- outermost list is that of slot 0.
-pub data WaitingLists (κ : Kind) (classes : ℕ) (W : List ℕ) (base0 hi0 : ℕ) : List ℕ → ℕ → ℕ → ℕ → ℕ → List (Held κ) → Type 0 where
-  bottom : WaitingLists κ classes W base0 hi0 [] 0 0 hi0 base0 []
+pub data Stack (κ : Kind) (classes : ℕ) (W : List ℕ) (base0 hi0 : ℕ) : List ℕ → ℕ → ℕ → ℕ → ℕ → List (Held κ) → Type 0 where
+  bottom : Stack κ classes W base0 hi0 [] 0 0 hi0 base0 []
   over : {X : List ℕ} {lo l m hi b : ℕ} {w : Walk} {t : State κ} {k : Token} {rest : Forest} {S : List (Held κ)}
-      → WaitingLists κ classes W base0 hi0 X w.list.owner lo hi w.list.base S
+      → Stack κ classes W base0 hi0 X w.list.owner lo hi w.list.base S
       → FrameOf κ classes W (w.list.owner ∷ X) lo l m hi w b t k rest
-      → WaitingLists κ classes W base0 hi0 (w.list.owner ∷ X) b l m (w.list.base + w.list.len + 6) (held t k rest ∷ S)
+      → Stack κ classes W base0 hi0 (w.list.owner ∷ X) b l m (w.list.base + w.list.len + 6) (held t k rest ∷ S)
 
 -- No pass empties a list: r, which the list on top gives, is not empty, and what each list below then gives is not empty either.
 abbrev pub Full : (κ : Kind) → List (Held κ) → Result → Type 0
@@ -62,10 +62,10 @@ pub record Going (κ : Kind) (classes : ℕ) (W : List ℕ) (base0 hi0 : ℕ) (w
   pub X : List ℕ
   pub lo : ℕ
   pub hi : ℕ
-  pub stack : WaitingLists κ classes W base0 hi0 X w.list.owner lo hi w.list.base S
+  pub stack : Stack κ classes W base0 hi0 X w.list.owner lo hi w.list.base S
   pub holds : Holds κ W (w.list.owner ∷ X) lo hi w s rest
   pub same : classes_of w.pass ≡ classes
-  pub room : RoomBehind W w.list rest
+  pub room : Room W w.list rest
   pub full : Full κ S (work κ s rest)
   pub some : 0 < hi0
   pub small : length W < 2 ^ 32
@@ -160,14 +160,14 @@ pub record CanDescend (W : List ℕ) (w : Walk) (item : ℕ) : Type 0 where
   pub k : Token
   pub cs : Forest
   pub rest : Forest
-  pub stack : WaitingLists κ classes W base0 hi0 X w.list.owner lo hi w.list.base S
+  pub stack : Stack κ classes W base0 hi0 X w.list.owner lo hi w.list.base S
   pub waiting : Waits κ W (w.list.owner ∷ X) lo l m hi w t rest
   pub same : classes_of w.pass ≡ classes
   pub tree : RepT W (w.list.owner ∷ X) item n m k cs
   pub some : is_nil cs ≡ false
   pub full : Full κ S (and_then (work κ u (in_reading κ cs)) (λ kids. work κ (takes κ t k kids) rest))
   pub begins : Begins W (item ∷ w.list.owner ∷ X) l n cs κ w.pass u
-  pub room : RoomBehind W w.list rest
+  pub room : Room W w.list rest
   pub inner : w.list.base + w.list.len + 6 + 8 * size cs ≤ length W
   pub small : length W < 2 ^ 32
 
@@ -185,7 +185,7 @@ pub record CanMove (W : List ℕ) (from n base : ℕ) : Type 0 where
   pub within : from + n ≤ length W
 
 -- The n words that stood from `from` on stand from `base` on, and the words below `base` are as they were.
-pub record WordsMoved (W : List ℕ) (from n base : ℕ) (W' : List ℕ) : Type 0 where
+pub record Moved (W : List ℕ) (from n base : ℕ) (W' : List ℕ) : Type 0 where
   pub words : (i : ℕ) → i < n → wd W' (base + i) ≡ wd W (from + i)
   pub same : (j : ℕ) → j < base → wd W' j ≡ wd W j
   pub long : length W' ≡ length W
@@ -218,7 +218,7 @@ pub record Advanced (W : List ℕ) (w : Walk) (base0 : ℕ) (r : Next) (W' : Lis
   pub beyond : (g : CanAdvance W w base0) → Beyond W W' base0 g.hi0
 
 -- Every item of the list on top is done.
-pub record CanCloseList (W : List ℕ) (w : Walk) (base0 : ℕ) : Type 0 where
+pub record CanClose (W : List ℕ) (w : Walk) (base0 : ℕ) : Type 0 where
   pub κ : Kind
   pub classes : ℕ
   pub hi0 : ℕ
@@ -229,9 +229,9 @@ pub record CanCloseList (W : List ℕ) (w : Walk) (base0 : ℕ) : Type 0 where
 
 -- The end of the list on top leads on with the same result, or to the end of the whole pass.
 pub record Closed (W : List ℕ) (w : Walk) (base0 : ℕ) (r : Next) (W' : List ℕ) : Type 0 where
-  pub to : (g : CanCloseList W w base0)
+  pub to : (g : CanClose W w base0)
       → NextTo g.κ g.classes W' base0 g.hi0 (unwound g.κ g.S (work g.κ g.s nil)) (turns_below g.κ g.S) r
-  pub beyond : (g : CanCloseList W w base0) → Beyond W W' base0 g.hi0
+  pub beyond : (g : CanClose W w base0) → Beyond W W' base0 g.hi0
 
 -- ---- `run`
 

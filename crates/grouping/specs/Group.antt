@@ -15,7 +15,7 @@ use Rattle.levels.specs.declared.failure.Failure.{Failure}
 use Rattle.grouping.specs.declared.grouped.Grouped.{Grouped}
 use Rattle.grouping.specs.declared.grouped.Grouped.TheVariants.{Failed as GroupFailed, Mismatched as GroupMismatched}
 use Rattle.grouping.specs.declared.grouped.Grouped.TheVariants.{Unclosed as GroupUnclosed}
-use Rattle.order.specs.Ranks.{used_by, rules_at}
+use Rattle.order.specs.Ranks.{used_by, rules_of}
 use Rattle.sections.specs.Flat.{CanJoin, CanSection, Answers}
 use Rattle.sections.specs.declared.Flat.{Flat}
 use Rattle.sections.specs.declared.Flat.TheVariants.{Done, Fail, Mismatched, Unclosed as Unclosing}
@@ -37,7 +37,7 @@ pub record CanGroup (W : List ℕ) (base n : ℕ) : Type 0 where
 pub record HasGrouped (W : List ℕ) (base n : ℕ) (used : OpSet) (version : ℤ) (r : Grouped) (W' : List ℕ) : Type 0 where
   pub to : (g : CanGroup W base n) (source_length : ℕ)
       → StandsFor W' (3 * n + 3) n source_length r
-      (grouped source_length (used_by used) (Order.order (rules_at version)) [] (leaves g.tokens))
+      (grouped source_length (used_by used) (Order.order (rules_of version)) [] (leaves g.tokens))
   pub long : length W' ≡ length W
 
 -- ---- the flat passes
@@ -109,5 +109,5 @@ pub record CanLevel (W : List ℕ) (base m : ℕ) : Type 0 where
 pub record Levelled (W : List ℕ) (base m : ℕ) (used : OpSet) (version : ℤ) (r : Grouped) (W' : List ℕ) : Type 0 where
   pub to : (g : CanLevel W base m) (source_length : ℕ)
       → StandsFor W' (3 * g.n + 3) g.n source_length r
-      (grouped source_length (used_by used) (drop 3 (Order.order (rules_at version))) [] g.F)
+      (grouped source_length (used_by used) (drop 3 (Order.order (rules_of version))) [] g.F)
   pub long : length W' ≡ length W

@@ -4,7 +4,7 @@
 ghost use Rattle.levels.specs.Passes.{walk_of};
 ghost use Rattle.levels.specs.Turns.{CanTurn, Turned, CanResume, Resumed, CanFinish, Ends};
 ghost use Rattle.passes.specs.TokenTurns.{AtToken, Seeks, TokenOf};
-ghost use Rattle.grouping.specs.Driver.{CanBegin, Begun, CanOpen, Opened, Keeping, CanDescend, Descended, CanMove, WordsMoved, CanCloseList};
+ghost use Rattle.grouping.specs.Driver.{CanBegin, Begun, CanOpen, Opened, Keeping, CanDescend, Descended, CanMove, Moved, CanClose};
 ghost use Rattle.grouping.specs.Driver.{Closed, CanAdvance, Advanced, CanRun, HasRun};
 
 use levels::failure::Failure;
@@ -172,7 +172,7 @@ fn descend(work: &mut [u32], waiting: Walk, item: u32) -> Walk
 // The n items from `from` on stand from `base` on, which is not above it.
 fn move_down(work: &mut [u32], from: usize, n: usize, base: usize)
     requires { CanMove work.old «from» n base }
-    ensures { WordsMoved work.old «from» n base work.new }
+    ensures { Moved work.old «from» n base work.new }
 {
     let mut i = 0usize;
     while i < n {
@@ -184,7 +184,7 @@ fn move_down(work: &mut [u32], from: usize, n: usize, base: usize)
 // The end of a list: its items become its owner's children, and the list that waits for the owner goes on. The outermost
 // list starts at `base0`; its items stay there for the pass after this one, and its end is the end of the pass.
 fn close(work: &mut [u32], walk: Walk, base0: usize) -> Next
-    requires { CanCloseList work.old walk base0 }
+    requires { CanClose work.old walk base0 }
     ensures { Closed work.old walk base0 result work.new }
 {
     let finished = finish(work, walk);

@@ -1,7 +1,7 @@
 // The passes in their fixed order (`group_tokens` in mod.rs): the flat ones over the array of the tokens, then the ranks of the order one
 // after another over the list of slot 0. Leans on sections, the driver, order (which pass stands at a rank), levels (failures), nodes
 // (slots, chains) and ops (sets).
-ghost use Rattle.grouping.specs.Choice.{CanChoose, HasChosen};
+ghost use Rattle.grouping.specs.Choice.{CanChoose, Chosen};
 ghost use Rattle.sections.specs.Flat.{CanJoin, CanSection};
 ghost use Rattle.grouping.specs.Group.{CanGroup, HasGrouped, EndsRight, JoinedIf, SectionedIf, Flattened, CanLevel, Levelled};
 
@@ -73,7 +73,7 @@ fn flat(work: &mut [u32], base: usize, n: usize, used: OpSet) -> Flat
 // A pass, if it is chosen and has something to do, over the list of slot 0, whose n items stand from `base` on.
 fn run_choice(work: &mut [u32], base: usize, n: usize, choice: Choice) -> Ran
     requires { CanChoose work.old base n choice }
-    ensures { HasChosen work.old base n choice result work.new }
+    ensures { Chosen work.old base n choice result work.new }
 {
     match choice {
         Choice::Skip => Ran::Done(n),

@@ -13,7 +13,7 @@ use Rattle.held.specs.{declared.Held.{Held}, declared.Change.{Change}, declared.
 use Rattle.held.specs.Held.{State, Edit, Lent, held_list, edited, slice_row, count_row, lent_call, edit_call, left_by, open_refusal}
 use Rattle.held.specs.Held.{open_left, ask_left, commit_left, opened, with_edit, committed, with_version}
 use Rattle.held.specs.Answers.{outcome_of, outcome, changes, is_refused, adopt_outcome, open_slice, HasOpened, HasAsked, HasCommitted}
-use Rattle.held.specs.Editing.{ask_fault, commit_fault, CanEdit, Accepts, CanKeep, kept_outcome, kept_tokens, numbers_after}
+use Rattle.held.specs.Editing.{ask_fault, commit_fault, CanEdit, Accepts, CanKeep, kept, kept_tokens, counted}
 use Rattle.held.proofs.{FaultLaws.{Within, ask-refused, ask-entry, commit-refused, commit-entry}, EditLaws.{edited-tokens}}
 use Rattle.held.proofs.KeepLaws.{unrefused, accepts, kept-outcome, kept-slice, slice_of}
 
@@ -47,7 +47,7 @@ module _ (slice list : List ℕ) (l : Lent) (version : ℤ) where
         let tokens : h.tokens ≡ length list / 5 = ap (λ (x : Held). x.tokens) same in
         record { words = omega (arith, tokens); room = omega (arith, tokens, a.1) }
 
-    pub has-opened : {r : Change} {slice' : List ℕ} → outcome_of r ≡ kept_outcome (told_of answer) h
+    pub has-opened : {r : Change} {slice' : List ℕ} → outcome_of r ≡ kept (told_of answer) h
         → slice' ≡ in_front (take (5 * kept_tokens (told_of answer) h.tokens) list) slice
         → HasOpened slice list l version r slice' tree' messages' work'
     unfolding open_slice opened open_left left_by answered tree_after messages_after work_after
@@ -58,7 +58,7 @@ module _ (slice list : List ℕ) (l : Lent) (version : ℤ) where
         λ n. take_all (5 * (length list / 5)) list (omega (arith, (accepted-list n).0))
         in
         record {
-          outcomes = e ∙ ((λ i. kept_outcome (read.told i) (same i)) ∙ rw o (kept-outcome (refusal c) (reading c) _));
+          outcomes = e ∙ ((λ i. kept (read.told i) (same i)) ∙ rw o (kept-outcome (refusal c) (reading c) _));
           slice = f
               ∙ ((λ i. in_front (take (5 * kept_tokens (read.told i) (same i).tokens) list) slice)
               ∙ rw (o, open_slice)
@@ -85,8 +85,8 @@ module _ (s : State) (e : Edit) (w : Within s e.place e.removed) where
       }
 
   -- The held numbers with the edit made.
-  pub next-held : numbers_after s.held e.removed (length e.put) ≡ (with_edit s e).held
-  unfolding numbers_after with_edit
+  pub next-held : counted s.held e.removed (length e.put) ≡ (with_edit s e).held
+  unfolding counted with_edit
   next-held =
       let can = can-edit {new = take 20480 s.slice} (length-take-le 20480 s.slice w.room) in
       let tokens : s.held.tokens - e.removed + length e.put / 5 ≡ length (edited e (held_list s)) / 5 =
@@ -138,7 +138,7 @@ module _ (s : State) (seen : ℕ) (e : Edit) (l : Lent) where
 
     pub has-committed : none ≡ commit_fault s seen e.place e.removed → (new : List ℕ) {new' : List ℕ}
         → (Accepts (told_of answer) → new' ≡ in_front (edited e (held_list s)) new)
-        → {r : Change} {slice' : List ℕ} → outcome_of r ≡ kept_outcome (told_of answer) h
+        → {r : Change} {slice' : List ℕ} → outcome_of r ≡ kept (told_of answer) h
         → slice' ≡ in_front (take (5 * kept_tokens (told_of answer) h.tokens) new') s.slice
         → HasCommitted s seen e l r slice' tree' messages' work'
     unfolding committed with_edit commit_left left_by answered tree_after messages_after work_after
@@ -151,7 +151,7 @@ module _ (s : State) (seen : ℕ) (e : Edit) (l : Lent) where
         ∙ front-words list new (5 * (length list / 5)) (omega (arith, (accepted-edit n).0))
         in
         record {
-          outcomes = f ∙ ((λ i. kept_outcome (read.told i) (same i)) ∙ rw o (kept-outcome (refusal c) (reading c) _));
+          outcomes = f ∙ ((λ i. kept (read.told i) (same i)) ∙ rw o (kept-outcome (refusal c) (reading c) _));
           slice = g
               ∙ ((λ i. in_front (take (5 * kept_tokens (read.told i) (same i).tokens) new') s.slice)
               ∙ rw o

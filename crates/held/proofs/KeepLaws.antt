@@ -6,7 +6,7 @@ use lib.ListN.{take}
 use Rattle.molang.specs.{Words.{Refusal}, Read.{Answer, tree, messages}}
 use Rattle.molang.specs.Parse.{Call, Told, a_tree, some_messages, refused, refusal, reading, told, answered, in_front}
 use Rattle.molang.proofs.Trees.{some-none}
-use Rattle.held.specs.{declared.Held.{Held}, Held.{State}, Answers.{outcome}, Editing.{Accepts, CanKeep, kept_outcome, kept_tokens}}
+use Rattle.held.specs.{declared.Held.{Held}, Held.{State}, Answers.{outcome}, Editing.{Accepts, CanKeep, kept, kept_tokens}}
 
 -- ---- A tree or messages are told of the calls that are not turned back, and of no others
 
@@ -30,8 +30,8 @@ module _ (c : Call) (t : Told) (e : t ≡ answered c) where
 
 -- ---- What is kept
 
-pub kept-outcome : (o : Option Refusal) (a : Answer) (h : Held) → kept_outcome (told o a) h ≡ outcome o (told o a) h
-unfolding told kept_outcome outcome
+pub kept-outcome : (o : Option Refusal) (a : Answer) (h : Held) → kept (told o a) h ≡ outcome o (told o a) h
+unfolding told kept outcome
 kept-outcome none (tree k cs) h = refl
 kept-outcome none (messages ms) h = refl
 kept-outcome (some r) a h = refl

@@ -11,9 +11,9 @@ use Rattle.held.specs.Held.{State, Edit, slice_row, claim_row, seen_row, edit_ro
 use Rattle.held.specs.Answers.{Outcome, holds, turned_back, state, edit}
 
 -- What each case of `Fault` says.
-abbrev pub fault_refusal : Fault → Option Refusal
-fault_refusal None = none
-fault_refusal (Refused number) = some (row number 0)
+abbrev pub fault_of : Fault → Option Refusal
+fault_of None = none
+fault_of (Refused number) = some (row number 0)
 
 -- Answers 15 and 2.
 unfoldable pub claim_fault : State → Option Refusal
@@ -56,10 +56,10 @@ pub record CanKeep (tokens : ℕ) (slice list : List ℕ) : Type 0 where
   pub room : 5 * tokens ≤ length slice
 
 -- What a list comes to that is kept if it is accepted.
-unfoldable pub kept_outcome : Told → Held → Outcome
-kept_outcome (a_tree nodes) h = holds (a_tree nodes) h
-kept_outcome (some_messages records) h = holds (some_messages records) h
-kept_outcome (refused number place) h = turned_back number place
+unfoldable pub kept : Told → Held → Outcome
+kept (a_tree nodes) h = holds (a_tree nodes) h
+kept (some_messages records) h = holds (some_messages records) h
+kept (refused number place) h = turned_back number place
 
 -- How many of its tokens are kept.
 unfoldable pub kept_tokens : Told → ℕ → ℕ
@@ -74,5 +74,5 @@ pub record CanCount (h : Held) (removed : ℕ) : Type 0 where
   pub next : h.edits < 4294967295
 
 -- The held numbers with an edit made that removes so many tokens and puts in so many words.
-unfoldable pub numbers_after : Held → ℕ → ℕ → Held
-numbers_after h removed words = record { tokens = h.tokens - removed + words / 5; version = h.version; edits = suc h.edits }
+unfoldable pub counted : Held → ℕ → ℕ → Held
+counted h removed words = record { tokens = h.tokens - removed + words / 5; version = h.version; edits = suc h.edits }

@@ -4,7 +4,7 @@ ghost use Rattle.std.specs.Prelude.{◌≡◌, [], ◌∷◌};
 ghost use Rattle.molang.specs.FirstFailure.{first_of};
 ghost use Rattle.held.specs.Held.{seen_row, count_row};
 ghost use Rattle.held.specs.Answers.{state};
-ghost use Rattle.held.specs.Editing.{fault_refusal, claim_fault, edit_fault, ask_fault, commit_fault};
+ghost use Rattle.held.specs.Editing.{fault_of, claim_fault, edit_fault, ask_fault, commit_fault};
 
 use crate::{HELD_WORDS, Held, LAST_COUNT};
 use words::fields::MOST_TOKENS;
@@ -19,7 +19,7 @@ pub enum Fault {
 
 // Answers 15 and 2, by the slice and by what the state claims.
 fn claim_fault(held: Held, words: &[u32]) -> Fault
-    ensures { fault_refusal result ≡ claim_fault (state held words.now) }
+    ensures { fault_of result ≡ claim_fault (state held words.now) }
 {
     if words.len() < HELD_WORDS {
         return Fault::Refused(refusals::SHORT_LIST);
@@ -32,7 +32,7 @@ fn claim_fault(held: Held, words: &[u32]) -> Fault
 
 // Answer 22.
 fn edit_fault(held: Held, place: usize, removed: usize) -> Fault
-    ensures { fault_refusal result ≡ edit_fault held place removed }
+    ensures { fault_of result ≡ edit_fault held place removed }
 {
     if held.tokens < place {
         return Fault::Refused(refusals::PAST_THE_END);
@@ -45,7 +45,7 @@ fn edit_fault(held: Held, place: usize, removed: usize) -> Fault
 
 // Answer 21.
 fn seen_fault(held: Held, seen: u32) -> Fault
-    ensures { fault_refusal result ≡ seen_row (state held []) seen }
+    ensures { fault_of result ≡ seen_row (state held []) seen }
 {
     if seen != held.edits {
         return Fault::Refused(refusals::OTHER_EDIT_COUNT);
@@ -55,7 +55,7 @@ fn seen_fault(held: Held, seen: u32) -> Fault
 
 // Answer 23.
 pub fn count_fault(held: Held) -> Fault
-    ensures { fault_refusal result ≡ count_row held }
+    ensures { fault_of result ≡ count_row held }
 {
     if LAST_COUNT <= held.edits {
         return Fault::Refused(refusals::LAST_EDIT);
@@ -65,7 +65,7 @@ pub fn count_fault(held: Held) -> Fault
 
 // The first of two that is a refusal.
 fn first(a: Fault, b: Fault) -> Fault
-    ensures { fault_refusal result ≡ first_of (fault_refusal a ∷ fault_refusal b ∷ []) }
+    ensures { fault_of result ≡ first_of (fault_of a ∷ fault_of b ∷ []) }
 {
     match a {
         Fault::Refused(number) => Fault::Refused(number),
@@ -75,7 +75,7 @@ fn first(a: Fault, b: Fault) -> Fault
 
 // Answers 15, 2 and 22.
 pub fn ask_fault(held: Held, words: &[u32], place: usize, removed: usize) -> Fault
-    ensures { fault_refusal result ≡ ask_fault (state held words.now) place removed }
+    ensures { fault_of result ≡ ask_fault (state held words.now) place removed }
 {
     let claimed = claim_fault(held, words);
     let edited = edit_fault(held, place, removed);
@@ -84,7 +84,7 @@ pub fn ask_fault(held: Held, words: &[u32], place: usize, removed: usize) -> Fau
 
 // Answers 15, 2, 21, 22 and 23.
 pub fn commit_fault(held: Held, seen: u32, words: &[u32], place: usize, removed: usize) -> Fault
-    ensures { fault_refusal result ≡ commit_fault (state held words.now) seen place removed }
+    ensures { fault_of result ≡ commit_fault (state held words.now) seen place removed }
 {
     let claimed = claim_fault(held, words);
     let other = seen_fault(held, seen);

@@ -3,7 +3,7 @@ ghost use Rattle.std.specs.Prelude.{◌≡◌, ◌*◌, length, take};
 ghost use Rattle.molang.specs.Parse.{in_front};
 ghost use Rattle.parse.specs.Answers.{told_of};
 ghost use Rattle.held.specs.Answers.{outcome_of};
-ghost use Rattle.held.specs.Editing.{Accepts, CanKeep, CanCount, kept_outcome, kept_tokens, numbers_after};
+ghost use Rattle.held.specs.Editing.{Accepts, CanKeep, CanCount, kept, kept_tokens, counted};
 
 use crate::copying::copy_words;
 use crate::{Change, Held};
@@ -32,7 +32,7 @@ fn kept_tokens(answer: Answer, tokens: usize) -> usize
 
 // An answer with the held numbers after it.
 fn with_held(answer: Answer, held: Held) -> Change
-    ensures { outcome_of result ≡ kept_outcome (told_of answer) held }
+    ensures { outcome_of result ≡ kept (told_of answer) held }
 {
     match answer {
         Answer::Refused(number, place) => Change::Refused(number, place),
@@ -45,7 +45,7 @@ fn with_held(answer: Answer, held: Held) -> Change
 // more than 4,096 tokens.
 pub fn keep(answer: Answer, held: Held, words: &mut [u32], list: &[u32]) -> Change
     requires { Accepts (told_of answer) → CanKeep held.tokens words.old list.now }
-    ensures result_value { outcome_of result ≡ kept_outcome (told_of answer) held }
+    ensures result_value { outcome_of result ≡ kept (told_of answer) held }
     ensures words_after { words.new
         ≡ in_front (take (5 * kept_tokens (told_of answer) held.tokens) list.now) words.old }
 {
@@ -57,7 +57,7 @@ pub fn keep(answer: Answer, held: Held, words: &mut [u32], list: &[u32]) -> Chan
 // The held numbers with an edit made. `commit_edit` calls it if none of its own rows has answered.
 pub fn with_edit(held: Held, removed: usize, put: &[u32]) -> Held
     requires { CanCount held removed }
-    ensures { result ≡ numbers_after held removed (length put.now) }
+    ensures { result ≡ counted held removed (length put.now) }
 {
     Held {
         tokens: held.tokens - removed + put.len() / fields::TOKEN_WORDS,

@@ -52,7 +52,7 @@ fn tallied(verdict: Verdict, counts: Counts) -> Ending
 
 // Ends the open list, which is so many words in front of its buffer. `main` lends the list's 640 words, and `feed` and `close_last` the
 // scratch.
-pub(crate) fn close(
+pub fn close(
     list: &[u32],
     words: usize,
     from: i16,

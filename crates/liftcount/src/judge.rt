@@ -89,7 +89,7 @@ fn read_twice(
 
 // What the open list comes to, which is so many words in front of its buffer; the buffers are of the lengths that `feed` and `close_last`
 // give them. The entry clears all the work that it is lent, so that it is lent what the tokens need.
-pub(crate) fn judge(
+pub fn judge(
     list: &[u32],
     words: usize,
     from: i16,

@@ -104,7 +104,7 @@ fn take_in_list(
 }
 
 // A word. `feed` lends the scratch and passes on the list's 640 words, here and below.
-pub(crate) fn take_word(
+pub fn take_word(
     run: Run,
     list: &mut [u32],
     w: u32,
@@ -133,7 +133,7 @@ pub(crate) fn take_word(
 }
 
 // A byte, which enters at the top of the word that has begun; with the fourth the word is taken.
-pub(crate) fn take_byte(
+pub fn take_byte(
     run: Run,
     list: &mut [u32],
     b: u8,

@@ -6,7 +6,7 @@ use lib.ListN.{length, take, drop, get_or, length-append, length-take, length-dr
 use Rattle.molang.specs.Words.{low_of}
 use Rattle.words.specs.Fields.{operator_of}
 use Rattle.text.{specs.Text.{numbered, line_end, space, Wrote}, proofs.TextLaws.{wrote_then, numbered-length}}
-use Rattle.listing.specs.Rows.{spaced, row_text, node_numbers, node_rows, record_rows}
+use Rattle.listing.specs.Rows.{spaced, row, node_numbers, node_rows, record_rows}
 
 -- LENGTHS
 pub spaced-length : (i : ℕ) (ns : List ℕ) → length (spaced i ns) ≤ 21 * i
@@ -19,8 +19,8 @@ spaced-length (suc i) ns = omega (
   spaced-length i ns,
 )
 
-pub row-length : (ns : List ℕ) → 1 ≤ length ns → length (row_text ns) ≤ 21 * length ns
-unfolding row_text
+pub row-length : (ns : List ℕ) → 1 ≤ length ns → length (row ns) ≤ 21 * length ns
+unfolding row
 row-length ns h =
     let k = length ns - 1 in
     omega (
@@ -36,7 +36,7 @@ node-rows-length zero tree = omega arith
 node-rows-length (suc i) tree =
     omega (
       arith,
-      length-append (node_rows i tree) (row_text (node_numbers tree (7 * i))),
+      length-append (node_rows i tree) (row (node_numbers tree (7 * i))),
       node-rows-length i tree,
       row-length (node_numbers tree (7 * i)) (omega arith),
     )
@@ -49,7 +49,7 @@ record-rows-length (suc i) messages h =
     let eights : length eight ≡ 8 = omega (arith, length-take 8 (drop (8 * i) messages), length-drop (8 * i) messages) in
     omega (
       arith,
-      length-append (record_rows i messages) (row_text eight),
+      length-append (record_rows i messages) (row eight),
       record-rows-length i messages (omega arith),
       row-length eight (omega arith),
     )
@@ -66,31 +66,31 @@ spaced-on h ns i n e p q =
 pub row_done : {a b c : List ℕ} {at m r : ℕ} → at ≤ length a → (ns : List ℕ) (i n : ℕ) → i ≡ length ns - 1 → n ≡ get_or ns (length ns - 1) 0
     → Wrote a at (spaced i ns) m b
     → Wrote b m (numbered n line_end) r c
-    → Wrote a at (row_text ns) r c
-row_done h ns i n k e p q = unfold row_text in wrote_then h (rw k at p) (rw e at q)
+    → Wrote a at (row ns) r c
+row_done h ns i n k e p q = unfold row in wrote_then h (rw k at p) (rw e at q)
 
 pub node-laid : {a b : List ℕ} {at r operator children start end : ℕ} (tree : List ℕ) (from : ℕ) → operator ≡ operator_of (get_or tree from 0)
     → children ≡ low_of (get_or tree (from + 5) 0)
     → start ≡ low_of (get_or tree (from + 1) 0)
     → end ≡ low_of (get_or tree (from + 2) 0)
-    → Wrote a at (row_text (operator ∷ children ∷ start ∷ end ∷ [])) r b
-    → Wrote a at (row_text (node_numbers tree from)) r b
+    → Wrote a at (row (operator ∷ children ∷ start ∷ end ∷ [])) r b
+    → Wrote a at (row (node_numbers tree from)) r b
 node-laid tree from o n s e w = unfold node_numbers in rw (o, n, s, e) at w
 
 pub nodes-on : {a b c : List ℕ} {at m r : ℕ} → at ≤ length a → (tree : List ℕ) (i : ℕ) → Wrote a at (node_rows i tree) m b
-    → Wrote b m (row_text (node_numbers tree (7 * i))) r c
+    → Wrote b m (row (node_numbers tree (7 * i))) r c
     → Wrote a at (node_rows (i + 1) tree) r c
 unfolding node_rows
 nodes-on h tree i p q =
-    let step : node_rows (i + 1) tree ≡ node_rows i tree ++ row_text (node_numbers tree (7 * i)) = ap (λ (k : ℕ). node_rows k tree) (add-one i) in
+    let step : node_rows (i + 1) tree ≡ node_rows i tree ++ row (node_numbers tree (7 * i)) = ap (λ (k : ℕ). node_rows k tree) (add-one i) in
     rw step (wrote_then h p q)
 
 pub records-on : {a b c : List ℕ} {at m r : ℕ} → at ≤ length a → (messages : List ℕ) (i : ℕ) → Wrote a at (record_rows i messages) m b
-    → Wrote b m (row_text (take 8 (drop (8 * i) messages))) r c
+    → Wrote b m (row (take 8 (drop (8 * i) messages))) r c
     → Wrote a at (record_rows (i + 1) messages) r c
 unfolding record_rows
 records-on h messages i p q =
-    let step : record_rows (i + 1) messages ≡ record_rows i messages ++ row_text (take 8 (drop (8 * i) messages)) =
+    let step : record_rows (i + 1) messages ≡ record_rows i messages ++ row (take 8 (drop (8 * i) messages)) =
     ap (λ (k : ℕ). record_rows k messages) (add-one i)
     in
     rw step (wrote_then h p q)

@@ -11,8 +11,8 @@ spaced zero ns = []
 spaced (suc i) ns = spaced i ns ++ numbered (get_or ns i 0) space
 
 -- A line of numbers, of which there are some: a space between two, the line's end after the last.
-unfoldable pub row_text : List ℕ → List ℕ
-row_text ns = spaced (length ns - 1) ns ++ numbered (get_or ns (length ns - 1) 0) line_end
+unfoldable pub row : List ℕ → List ℕ
+row ns = spaced (length ns - 1) ns ++ numbered (get_or ns (length ns - 1) 0) line_end
 
 -- The numbers of a tree's node, of which the tree words from `at` on are: operator, children, start, end.
 unfoldable pub node_numbers : List ℕ → ℕ → List ℕ
@@ -22,12 +22,12 @@ node_numbers tree at =
 -- A line for each of the first nodes.
 unfoldable pub node_rows : ℕ → List ℕ → List ℕ
 node_rows zero tree = []
-node_rows (suc i) tree = node_rows i tree ++ row_text (node_numbers tree (7 * i))
+node_rows (suc i) tree = node_rows i tree ++ row (node_numbers tree (7 * i))
 
 -- A line for each of the first message records.
 unfoldable pub record_rows : ℕ → List ℕ → List ℕ
 record_rows zero messages = []
-record_rows (suc i) messages = record_rows i messages ++ row_text (take 8 (drop (8 * i) messages))
+record_rows (suc i) messages = record_rows i messages ++ row (take 8 (drop (8 * i) messages))
 
 -- An answer, the tree or the messages being those in the buffers.
 unfoldable pub answer_text : Told → List ℕ → List ℕ → List ℕ

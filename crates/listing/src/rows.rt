@@ -3,7 +3,7 @@
 ghost use Rattle.std.specs.Prelude.{◌+◌, ◌*◌, ◌≤◌, length};
 ghost use Rattle.parse.specs.Answers.{told_of};
 ghost use Rattle.text.specs.Text.{Wrote};
-ghost use Rattle.listing.specs.Rows.{row_text, node_rows, record_rows, node_numbers, answer_text, CanPut};
+ghost use Rattle.listing.specs.Rows.{row, node_rows, record_rows, node_numbers, answer_text, CanPut};
 
 use parse::Answer;
 use text::{put_bytes, put_number};
@@ -13,7 +13,7 @@ use words::fields::wide;
 // A line of numbers. `put_answer` has room for the longest text of each line, here and below.
 fn put_row(out: &mut [u8], at: usize, numbers: &[u32]) -> usize
     requires { (at + 21 * length numbers.now ≤ length out.old) × (1 ≤ length numbers.now) }
-    ensures { Wrote out.old at (row_text numbers.now) result out.new }
+    ensures { Wrote out.old at (row numbers.now) result out.new }
 {
     let last = numbers.len() - 1;
     let mut end = at;
@@ -28,7 +28,7 @@ fn put_row(out: &mut [u8], at: usize, numbers: &[u32]) -> usize
 // A line for the node whose words stand from `from` on: operator, children, start, end.
 fn put_node(out: &mut [u8], at: usize, tree: &[u32], from: usize) -> usize
     requires { (at + 84 ≤ length out.old) × (from + 7 ≤ length tree.now) }
-    ensures { Wrote out.old at (row_text (node_numbers tree.now from)) result out.new }
+    ensures { Wrote out.old at (row (node_numbers tree.now from)) result out.new }
 {
     let operator = fields::operator(tree[from]);
     let start = fields::low(tree[from + fields::START_FIELD]);

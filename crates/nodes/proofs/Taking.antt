@@ -6,7 +6,7 @@ use mathlib.Core.{Path.{◌≡◌, refl, sym, ap, ◌∙◌, subst}, Logic.{◌�
 use native.Mathlib.Omega.{arith}
 use lib.ListN.{length, set, length-set, length-append}
 use Rattle.nodes.specs.Store.{wd, slot_start, slot_end, next_word, next_at, Chain, Seg, Inc}
-use Rattle.nodes.specs.Children.{CanTake, Taken, CanFollow, ChainCounted, last_from, IsLast}
+use Rattle.nodes.specs.Children.{CanTake, Taken, CanFollow, Counted, last_from, IsLast}
 use Rattle.nodes.proofs.Runs.{wd-same, wd-other, inc-le, seg-keep, seg-snoc, chain-unique}
 
 -- ---- `take_chain`
@@ -155,7 +155,7 @@ count-step {W} {first} {s} {n} (c ∷ left) v h =
       },
     )
 
-pub count-done : {W : List ℕ} {first s n : ℕ} (left : List ℕ) → CountAt W first s n left → s ≡ 0 → ChainCounted W first n
+pub count-done : {W : List ℕ} {first s n : ℕ} (left : List ℕ) → CountAt W first s n left → s ≡ 0 → Counted W first n
 count-done [] v h = record { count = λ cs p. sym (v.whole cs p ∙ omega arith) }
 count-done (c ∷ left) v h = absurd (omega arith)
 

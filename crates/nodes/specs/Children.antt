@@ -77,7 +77,7 @@ pub record CanFollow (W : List ℕ) (first : ℕ) : Type 0 where
   pub within : slot_start hi ≤ length W
 
 -- n is the number of the chain's slots.
-pub record ChainCounted (W : List ℕ) (first n : ℕ) : Type 0 where
+pub record Counted (W : List ℕ) (first n : ℕ) : Type 0 where
   pub count : (cs : List ℕ) → Chain W first cs → n ≡ length cs
 
 -- The last of the slots c and those after it.

@@ -4,7 +4,7 @@
 // the store (specs/Store), whose trees stand in intervals of slots that rise, below the stack. Leans on the slots and ops.
 ghost use Rattle.std.specs.Prelude.{◌≢◌, ◌≤◌, length};
 ghost use Rattle.nodes.specs.Store.{slot_end};
-ghost use Rattle.nodes.specs.Children.{Attached, AttachedTwo, CanTake, Taken, CanGive, Given, CanFollow, ChainCounted, IsLast};
+ghost use Rattle.nodes.specs.Children.{Attached, AttachedTwo, CanTake, Taken, CanGive, Given, CanFollow, Counted, IsLast};
 
 use crate::slots::{classes_of, next_of, set_classes, set_first, set_next};
 use ops::classes::TokenClasses;
@@ -80,7 +80,7 @@ pub fn give_children(work: &mut [u32], parent: u32, from: usize, n: usize)
 // tree's nodes are read at one place of the code and the second at another. The processor then foresees where they stand.
 pub fn count_chain(work: &[u32], first: u32) -> u32
     requires { CanFollow work.now first }
-    ensures { ChainCounted work.now first result }
+    ensures { Counted work.now first result }
 {
     if first == 0 {
         return 0;

@@ -12,7 +12,7 @@ ghost use Rattle.nodes.specs.Store.{first_at, next_at, classes_at};
 ghost use Rattle.nodes.specs.Stored.{stored_at};
 ghost use Rattle.nodes.specs.Slots.{op_at, start_at, end_at, is_leaf_at, is_token_at, Laid, Made};
 
-use crate::stored::{CLOSE_WORD, StoredWords};
+use crate::stored::{CLOSE_FIELD, StoredWords};
 use ops::classes::TokenClasses;
 use words::fields;
 
@@ -111,7 +111,7 @@ pub fn set_close(work: &mut [u32], s: u32, closer: u32)
     ensures { work.new ≡ set work.old (close_word s) (word 7 (end_at work.old closer)) }
 {
     let end = work[SLOT_WORDS * (closer as usize) + fields::END_FIELD];
-    work[SLOT_WORDS * (s as usize) + CLOSE_WORD] = fields::close_word(end);
+    work[SLOT_WORDS * (s as usize) + CLOSE_FIELD] = fields::close_word(end);
 }
 
 pub fn set_classes(work: &mut [u32], s: u32, classes: TokenClasses)

@@ -11,7 +11,7 @@ use words::tokens::TokenWords;
 // Which of a slot's words is the value, and which says where the token closes.
 pub const VALUE_FIELD: usize = 3;
 
-pub const CLOSE_WORD: usize = 4;
+pub const CLOSE_FIELD: usize = 4;
 
 // A token's words in the store.
 #[derive(Clone, Copy)]
@@ -47,7 +47,7 @@ impl StoredWords {
             start: words[at + fields::START_FIELD],
             end: words[at + fields::END_FIELD],
             value: words[at + VALUE_FIELD],
-            close: words[at + CLOSE_WORD],
+            close: words[at + CLOSE_FIELD],
         }
     }
 
@@ -73,7 +73,7 @@ impl StoredWords {
         words[at + fields::START_FIELD] = self.start;
         words[at + fields::END_FIELD] = self.end;
         words[at + VALUE_FIELD] = self.value;
-        words[at + CLOSE_WORD] = self.close;
+        words[at + CLOSE_FIELD] = self.close;
     }
 
     // The five words of a list's token, the value in two halves again.

@@ -19,7 +19,7 @@ use Rattle.levels.specs.declared.turns.Pass.{Pass as State}
 use Rattle.levels.specs.declared.turns.Pass.TheVariants.{Calls, MathCalls, Unsplit, Split, Arrays, Unary, Binary, Conditional, Returns}
 use Rattle.levels.specs.contracts.turns.Pass.{the_type}
 use Rattle.order.specs.{declared.Choice.TheVariants.{Run, Skip}, declared.Rank.{Rank}}
-use Rattle.order.specs.Ranks.{used_by, rules_at, later, Starts, call, unsplit_pass, array, math_call, unary, conditional_pass, return_pass}
+use Rattle.order.specs.Ranks.{used_by, rules_of, later, Starts, call, unsplit_pass, array, math_call, unary, conditional_pass, return_pass}
 use Rattle.order.specs.Ranks.{point, plus, level, call_gate, is_open, is_used, AtRank, past, first, unranked, Ranked, Chosen, over}
 use Rattle.order.specs.Ranks.{unused, used}
 
@@ -321,21 +321,21 @@ six-five (negsuc n) e = e
 
 module _ (v : ℤ) where
   table_is : (b6 b5 : Bool) (table : List Rank) → is_from 6 v ≡ b6 → is_from 5 v ≡ b5 → Each (later (ruled b6 b5)) table
-      → Ranked (later (rules_at v)) table
+      → Ranked (later (rules_of v)) table
   table_is b6 b5 table e6 e5 e = subst (λ (r : Rules). Ranked (later r) table) (sym (ap₂ ruled e6 e5)) (ranked e)
 
   pub before-5 : is_from 6 v ≡ false → is_from 5 v ≡ false
-      → Ranked (later (rules_at v)) (front-ranks (compared-ranks (or-and-ranks (branched-ranks (end-ranks [])))))
+      → Ranked (later (rules_of v)) (front-ranks (compared-ranks (or-and-ranks (branched-ranks (end-ranks [])))))
   unfolding order comparisons logic conditionals
   before-5 e6 e5 = table_is false false _ e6 e5 (front-each (compared-each (or-and-each (branched-each (end-each done)))))
 
   pub at_5 : is_from 6 v ≡ false → is_from 5 v ≡ true
-      → Ranked (later (rules_at v)) (front-ranks (compared-ranks (or-and-ranks (folded-ranks (end-ranks (unranked ∷ []))))))
+      → Ranked (later (rules_of v)) (front-ranks (compared-ranks (or-and-ranks (folded-ranks (end-ranks (unranked ∷ []))))))
   unfolding order comparisons logic conditionals
   at_5 e6 e5 = table_is false true _ e6 e5 (front-each (compared-each (or-and-each (folded-each (end-each (empty done))))))
 
   pub from-6 : is_from 6 v ≡ true
-      → Ranked (later (rules_at v))
+      → Ranked (later (rules_of v))
       (front-ranks (compared-together-ranks (and-or-ranks (folded-ranks (end-ranks
       (unranked ∷ unranked ∷ unranked ∷ unranked ∷ unranked ∷ []))))))
   unfolding order comparisons logic conditionals

@@ -20,8 +20,8 @@ abbrev pub used_by : OpSet → ℕ → Bool
 used_by set n = in_halves set.low set.high n
 
 -- The rules of a version as the rules use it: `rules v` of the definition is this at `effective v`.
-abbrev pub rules_at : ℤ → Rules
-rules_at version = record { comparisons_first = is_from 6 version; and_first = is_from 6 version; pairs_right = is_from 5 version }
+abbrev pub rules_of : ℤ → Rules
+rules_of version = record { comparisons_first = is_from 6 version; and_first = is_from 6 version; pairs_right = is_from 5 version }
 
 -- The passes after the three flat ones, from rank 0 on.
 abbrev pub later : Rules → List Pass

@@ -5,7 +5,7 @@
 
 ghost use Rattle.std.specs.Prelude.{List};
 ghost use Rattle.molang.specs.Order as definition;
-ghost use Rattle.order.specs.Ranks.{used_by, rules_at, later, Ranked, AtRank, Chosen};
+ghost use Rattle.order.specs.Ranks.{used_by, rules_of, later, Ranked, AtRank, Chosen};
 
 use levels::turns::Pass;
 use ops::classes::TokenClasses;
@@ -352,7 +352,7 @@ const FROM_6: [Rank; 23] = [
 
 // The ranks of a version as the rules use it (`ops::version::effective`).
 pub fn ranks(version: i16) -> [Rank; 23]
-    ensures { Ranked (later (rules_at version)) result }
+    ensures { Ranked (later (rules_of version)) result }
 {
     if is_from_6(version) {
         return FROM_6;

@@ -9,7 +9,7 @@ use Rattle.molang.specs.Parse.{Call, reading, told, a_tree, answered, tree_in, t
 use Rattle.molang.specs.Order as Order
 use Rattle.molang.specs.Read as Reading
 use Rattle.ops.specs.declared.sets.OpSet.{OpSet}
-use Rattle.order.specs.Ranks.{used_by, rules_at}
+use Rattle.order.specs.Ranks.{used_by, rules_of}
 use Rattle.accept.{specs.Accepting.{is_read, is_refused}, proofs.AcceptLaws.{checked, reads-call, refuses-call}}
 use Rattle.buffers.{specs.Load.{CanLoad, Loaded}, proofs.Loading.{loaded-array}}
 use Rattle.grouping.specs.{declared.grouped.Grouped.{Grouped}, Group.{CanGroup, HasGrouped}}
@@ -25,11 +25,11 @@ read-load p = record { faultless = p.faultless; tokens = p.tokens; few = p.few; 
 
 -- The passes by the rules of the effective version are the reading at the raw one.
 same-reading : (list : List ℕ) (used : OpSet) (version effective : ℤ) → effective ≡ Order.effective version → (source_length : ℕ)
-    → Reading.grouped source_length (used_by used) (Order.order (rules_at effective)) [] (leaves (tokens_of list))
+    → Reading.grouped source_length (used_by used) (Order.order (rules_of effective)) [] (leaves (tokens_of list))
     ≡ read (tokens_of list) (used_by used) version source_length
 unfolding read rules
 same-reading list used version effective e source_length =
-    ap (λ (v : ℤ). Reading.grouped source_length (used_by used) (Order.order (rules_at v)) [] (leaves (tokens_of list))) e
+    ap (λ (v : ℤ). Reading.grouped source_length (used_by used) (Order.order (rules_of v)) [] (leaves (tokens_of list))) e
 
 module _ {list W buffer m : List ℕ} {n : ℕ} (p : CanRead list W buffer m n) (W1 : List ℕ) (loaded : Loaded list W n W1) (base : ℕ)
     (based : base ≡ 24 * n + 24) where

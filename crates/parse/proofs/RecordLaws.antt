@@ -8,14 +8,14 @@ use borrow.Author.Tests.{eq-eqb, ne_eqb, leb-true, leb-false}
 use Rattle.molang.specs.{Operator.{closing_of}, Forest.{Token}}
 use Rattle.molang.specs.{Message.{Message, message_record, host_math_variant, host_value, closer, record8, about}, Words.{word}}
 use Rattle.molang.specs.Parse.{record_words}
-use Rattle.words.specs.{Fields.{variant_of}, Records.{with_first, with_last, eight_words}, declared.records.Record.{Record}}
+use Rattle.words.specs.{Fields.{variant_of}, Records.{with_first, with_last, words_of}, declared.records.Record.{Record}}
 use Rattle.nodes.specs.Store.{slot_start, operator_word_at, value_word_at, close_word_at, TokenAt}
 use Rattle.nodes.proofs.Tokens.{value-word, close-word, token-op, token-variant, token-start, token_end}
 use Rattle.levels.specs.Failures.{Tells, leading_member_accessor, empty_parameter_list, math_at_end, math_without_parenthesis, leading_semicolon}
 use Rattle.levels.specs.Failures.{empty_array_index, binary_at_end, negate_without_operand, not_without_operand, unknown_operation}
 use Rattle.levels.specs.{Failures.{unary_without_operand, ternary_without_operands}, declared.failure.Failure.{Failure}}
 use Rattle.grouping.specs.Grouped.{Says, tells, not_ended, without_tokens}
-use Rattle.parse.specs.Records.{SlotWithin, host_at, closer_at, Named, record_for}
+use Rattle.parse.specs.Records.{Within, host_at, closer_at, Named, record_for}
 
 -- ---- records argument by argument
 
@@ -45,11 +45,11 @@ a-host W s v r e h f = unfold host_at in rw (host_at, eq-eqb (variant_of (operat
 
 module _ {W : List ℕ} {s : ℕ} {k : Token} (t : TokenAt W s k) where
   -- Words after the last are 0, which the word of where a token closes is not.
-  pub slot-within : length W % 8 ≡ 0 → SlotWithin W s
+  pub slot-within : length W % 8 ≡ 0 → Within W s
   unfolding word
   slot-within whole = go (leb (length W) (slot_start s + 4)) refl
     where
-      go : (b : Bool) → leb (length W) (slot_start s + 4) ≡ b → SlotWithin W s
+      go : (b : Bool) → leb (length W) (slot_start s + 4) ≡ b → Within W s
       go true e =
           let past : close_word_at W s ≡ 0 = get_or-eq_default W 0 (leb-true (length W) (slot_start s + 4) e) in
           absurd (omega (arith, close-word t))
@@ -81,8 +81,8 @@ says-slots (not_ended t) h l = (slot-within t h, slot-within t h)
 says-slots without_tokens h l = (l, l)
 
 tells-words : (W : List ℕ) (source_length : ℕ) {f : Failure} {ms : List Message} → Tells W f ms
-    → eight_words (record_for W source_length f) ≡ record_words ms
-unfolding eight_words record_words message_record about record8
+    → words_of (record_for W source_length f) ≡ record_words ms
+unfolding words_of record_words message_record about record8
 tells-words W l (leading_member_accessor t) = rw (token-start t, token_end t)
 tells-words W l (empty_parameter_list t u) = rw (token-start t, token_end u, token-op t)
 tells-words W l (math_at_end t) = rw (token-start t, token_end t, token-op t, host-token t)
@@ -97,8 +97,8 @@ tells-words W l (unary_without_operand t) = rw (token-start t, token_end t, toke
 tells-words W l (ternary_without_operands t) = rw (token-start t, token_end t, token-op t)
 
 pub says-words : (W : List ℕ) (source_length : ℕ) {f : Failure} {ms : List Message} → Says W source_length f ms
-    → eight_words (record_for W source_length f) ≡ record_words ms
-unfolding eight_words record_words message_record about record8
+    → words_of (record_for W source_length f) ≡ record_words ms
+unfolding words_of record_words message_record about record8
 says-words W l (tells t) = tells-words W l t
 says-words W l (not_ended t) = rw (token-start t, token_end t)
 says-words W l without_tokens = refl

@@ -7,9 +7,9 @@ use Rattle.molang.specs.{Forest.{Token, Forest, nil, node, count, size}, Message
 use Rattle.molang.specs.{Read.{lowest_start, highest_end, last_end, rooted}, Words.{tree_words}, Legal.{LegalTrees, no_trees, legal_tree}}
 use Rattle.molang.specs.{WriteEntry.{trees_of}, Parse.{record_words, messages_in}}
 use Rattle.molang.proofs.{Trees.{count-size}, Words.{trees-back}, Bounds.{tree_words-length}}
-use Rattle.words.{specs.Records.{unnamed, with_first, eight_words, laid_at}, specs.Extents.{first_extent}, specs.Tokens.{node_length}}
+use Rattle.words.{specs.Records.{unnamed, with_first, words_of, laid_at}, specs.Extents.{first_extent}, specs.Tokens.{node_length}}
 use Rattle.words.{specs.declared.extent.Extent.{Extent}, proofs.RecordLaws.{laid-front}}
-use Rattle.nodes.specs.{Store.{slot_start, next_at, Chain, RepF, AllLegal}, Children.{CanFollow, ChainCounted, IsLast, last_from}}
+use Rattle.nodes.specs.{Store.{slot_start, next_at, Chain, RepF, AllLegal}, Children.{CanFollow, Counted, IsLast, last_from}}
 use Rattle.nodes.proofs.Store.{rep-legal, rep-keep, rep-le, rep-count, tree-first}
 use Rattle.buffers.specs.Emit.{Linked, CanEmit, Emitted}
 use Rattle.buffers.proofs.{Runs.{seg-part}, Linking.{tree-linked, linked-chain, linked-follow, linked-none}}
@@ -130,11 +130,11 @@ module _ (W W' : List ℕ) (head n : ℕ) (starts : Extent) (v : Measured W head
             room = omega (arith, p.measure.room, v.long);
           }
 
-  pub roots-reported : (m m' W'' : List ℕ) (tail roots : ℕ) (last : Extent) → CanReportRoots W m head n → ChainCounted W head roots
+  pub roots-reported : (m m' W'' : List ℕ) (tail roots : ℕ) (last : Extent) → CanReportRoots W m head n → Counted W head roots
       → IsLast W head tail
-      → Measured W' tail n last W'' → m' ≡ laid_at 0 (eight_words (with_first (unnamed 1 starts.start last.end) roots 0)) m
+      → Measured W' tail n last W'' → m' ≡ laid_at 0 (words_of (with_first (unnamed 1 starts.start last.end) roots 0)) m
       → RootsReported W m head n W'' m'
-  unfolding count rooted messages_in record_words eight_words message_record record8 first_extent last_end
+  unfolding count rooted messages_in record_words words_of message_record record8 first_extent last_end
   roots-reported m m' W'' tail roots last p counted is_last u e =
       record { message = go; same = λ j h. u.same j h ∙ v.same j h; long = u.long ∙ v.long }
     where
@@ -149,4 +149,4 @@ module _ (W W' : List ℕ) (head n : ℕ) (starts : Extent) (v : Measured W head
           ap (λ (x : Extent). x.end) (u.extent (node t.t t.below nil) (kept (omega (arith, p.measure.room)) t.linked))
           ∙ sym t.ends in
           let number : roots ≡ count f = counted.count w.bs w.chain ∙ rep-count w.rep in
-          e ∙ (laid-front (eight_words (with_first (unnamed 1 starts.start last.end) roots 0)) m ∙ rw (first, end, number))
+          e ∙ (laid-front (words_of (with_first (unnamed 1 starts.start last.end) roots 0)) m ∙ rw (first, end, number))

@@ -18,8 +18,8 @@ use Rattle.levels.specs.declared.failure.Mismatch.{Mismatch}
 use Rattle.levels.specs.declared.failure.Unclosed.{Unclosed}
 
 -- The words of slot s lie within the buffer.
-abbrev pub SlotWithin : List ℕ → ℕ → Type 0
-SlotWithin W s = slot_end s ≤ length W
+abbrev pub Within : List ℕ → ℕ → Type 0
+Within W s = slot_end s ≤ length W
 
 -- From one slot's start to another's end.
 abbrev pub span_record : List ℕ → ℕ → ℕ → ℕ → Record
@@ -93,7 +93,7 @@ second_slot (TernaryWithoutOperands s) = s
 
 -- Both lie within the buffer.
 abbrev pub Named : List ℕ → Failure → Type 0
-Named W f = SlotWithin W (first_slot f) × SlotWithin W (second_slot f)
+Named W f = Within W (first_slot f) × Within W (second_slot f)
 
 -- The record of a failure, over a source of that length.
 abbrev pub record_for : List ℕ → ℕ → Failure → Record

@@ -2,7 +2,7 @@
 // Leans on levels (failures), buffers, nodes, ops and words; specs/Records says which record a failure has.
 ghost use Rattle.std.specs.Prelude.{◌≡◌, ◌+◌, ◌*◌, ◌≤◌, length};
 ghost use Rattle.words.specs.Records.{laid_at};
-ghost use Rattle.parse.specs.Records.{SlotWithin, span_record, name_record, host_at, math_record, open_record, mismatch_record, unclosed_record};
+ghost use Rattle.parse.specs.Records.{Within, span_record, name_record, host_at, math_record, open_record, mismatch_record, unclosed_record};
 ghost use Rattle.parse.specs.Records.{Named, record_for};
 ghost use Rattle.molang.specs.Message.{message_record, multiple_roots};
 ghost use Rattle.grouping.specs.declared.grouped.Grouped.TheVariants.{Failed, Mismatched, Unclosed as Unclosing, PointerFailed};
@@ -19,7 +19,7 @@ use words::{fields, records};
 
 // A message at the span from one slot's start to another's end. A failure names slots of the store (`Named`), here and up to `record_of`.
 fn spanning(work: &[u32], number: u32, from: u32, to: u32) -> Record
-    requires { SlotWithin work.now from × SlotWithin work.now to }
+    requires { Within work.now from × Within work.now to }
     ensures { result ≡ span_record work.now number from to }
 {
     Record::new(number, slots::start_of(work, from), slots::end_of(work, to))
@@ -27,7 +27,7 @@ fn spanning(work: &[u32], number: u32, from: u32, to: u32) -> Record
 
 // A message at a slot's span, with no argument.
 fn at_slot(work: &[u32], number: u32, s: u32) -> Record
-    requires { SlotWithin work.now s }
+    requires { Within work.now s }
     ensures { result ≡ span_record work.now number s s }
 {
     spanning(work, number, s, s)
@@ -35,7 +35,7 @@ fn at_slot(work: &[u32], number: u32, s: u32) -> Record
 
 // A message over two slots that names the operator of a third.
 fn naming(work: &[u32], number: u32, from: u32, to: u32, named: u32) -> Record
-    requires { SlotWithin work.now from × SlotWithin work.now to × SlotWithin work.now named }
+    requires { Within work.now from × Within work.now to × Within work.now named }
     ensures { result ≡ name_record work.now number from to named }
 {
     spanning(work, number, from, to).naming(slots::operator_of(work, named), 0)
@@ -43,7 +43,7 @@ fn naming(work: &[u32], number: u32, from: u32, to: u32, named: u32) -> Record
 
 // The payload value of a slot if it is a host math function's, else 0.
 fn host_value(work: &[u32], s: u32) -> u32
-    requires { SlotWithin work.now s }
+    requires { Within work.now s }
     ensures { result ≡ host_at work.now s }
 {
     let token = slots::token_of(work, s);
@@ -55,7 +55,7 @@ fn host_value(work: &[u32], s: u32) -> u32
 
 // A message that names a math function.
 fn naming_math(work: &[u32], number: u32, s: u32) -> Record
-    requires { SlotWithin work.now s }
+    requires { Within work.now s }
     ensures { result ≡ math_record work.now number s }
 {
     at_slot(work, number, s).naming(slots::operator_of(work, s), host_value(work, s))
@@ -63,7 +63,7 @@ fn naming_math(work: &[u32], number: u32, s: u32) -> Record
 
 // The section of an opener is not closed.
 fn not_closed(work: &[u32], opener: u32) -> Record
-    requires { SlotWithin work.now opener }
+    requires { Within work.now opener }
     ensures { result ≡ open_record work.now opener }
 {
     let op = slots::operator_of(work, opener);
@@ -72,7 +72,7 @@ fn not_closed(work: &[u32], opener: u32) -> Record
 
 // The first record of a closer that does not match.
 fn mismatched(work: &[u32], m: Mismatch) -> Record
-    requires { SlotWithin work.now m.opener × SlotWithin work.now m.closer }
+    requires { Within work.now m.opener × Within work.now m.closer }
     ensures { result ≡ mismatch_record work.now m }
 {
     let op = slots::operator_of(work, m.opener);
@@ -83,7 +83,7 @@ fn mismatched(work: &[u32], m: Mismatch) -> Record
 
 // The first record of a section with no closer.
 fn unclosed(work: &[u32], u: Unclosed) -> Record
-    requires { SlotWithin work.now u.inner }
+    requires { Within work.now u.inner }
     ensures { result ≡ unclosed_record work.now u }
 {
     let op = slots::operator_of(work, u.inner);

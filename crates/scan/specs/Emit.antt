@@ -2,7 +2,7 @@
 use Rattle.std.specs.Prelude.{ℕ, zero, suc, ◌+◌, ◌*◌, ◌-◌, ◌≤◌, ◌<◌, List, [], ◌∷◌, ◌++◌, length, get_or}
 use Rattle.molang.specs.Words.{word, low_of}
 use Rattle.words.specs.Fields.{with_operator}
-use Rattle.words.specs.Tokens.{token_words_at, bare_words, seven_words}
+use Rattle.words.specs.Tokens.{token_words_at, bare_words, node_words}
 use Rattle.words.specs.declared.tokens.TokenWords.{TokenWords}
 use Rattle.scan.specs.Records.{token_place, closer_place, children_of, form_of}
 
@@ -22,7 +22,7 @@ label_words (suc (suc (suc (suc n)))) k = renamed_words 63 k
 -- The words of a record's node.
 unfoldable pub words_of_record : List ℕ → ℕ → List ℕ
 words_of_record list w =
-    seven_words (label_words (form_of w) (token_words_at list (token_place w))) (children_of w) (word 7 (low_of (get_or list (closer_place w + 2) 0)))
+    node_words (label_words (form_of w) (token_words_at list (token_place w))) (children_of w) (word 7 (low_of (get_or list (closer_place w + 2) 0)))
 
 unfoldable pub words_of_records : List ℕ → List ℕ → List ℕ
 words_of_records list [] = []

@@ -14,7 +14,7 @@ use Rattle.nodes.{specs.Slots.{op_at, end_at}, specs.Children.{CanGive, Given}, 
 use Rattle.nodes.{proofs.Tokens.{token-closed}, proofs.Store.{reserve-pos, rep-lower, rep-raise, tree-below, tree-out, back-le, back-avoid}}
 use Rattle.nodes.proofs.Keeping.{free-above, free_part, tree-beside, give_kept}
 use Rattle.nodes.proofs.Trees.{tree-op, array-give, owned-tree, owned-leaf, owned-store, give-owned, give-token}
-use Rattle.sections.specs.Flat.{Opener, Standing, outer, inner, LookAt, Follows, on, ends, SectionClosed, Looked, UnclosedNamed}
+use Rattle.sections.specs.Flat.{Opener, Standing, outer, inner, LookAt, Follows, on, ends, Closed, Looked, Named}
 use Rattle.sections.specs.{declared.Reached.{Reached}, declared.Bracket.{Bracket}, declared.Bracket.TheVariants.{On, Differs}}
 use Rattle.levels.specs.{Failures.{mismatched}, declared.failure.Unclosed.{Unclosed}}
 use Rattle.sections.proofs.SectionCases.{missed, other-closes, classless, opener-leaf, bracket-opens, bracket-closes, bracket-places}
@@ -87,7 +87,7 @@ innermost-op x p ep = rw (ep, innermost-slot x) (tree-op x.leaf)
 pub close-differs : {W X : List ℕ} {base marks lo l m k w item depth : ℕ} {s : Open} {t : Token} {cs : Forest}
     → Standing W X base marks lo l k w s → k ≢ 0 → RepT W X item l m t cs
     → (p x y i : ℕ) (u : Unclosed) → p ≡ wd W (marks + 2 * (k - 1)) → x ≡ get_or (closing_of (op_at W (wd W (base + p)))) 0
-    → y ≡ op_at W item → x ≢ y → UnclosedNamed W base marks k u
+    → y ≡ op_at W item → x ≢ y → Named W base marks k u
     → Follows W X base marks lo m w i
     (Differs (record { opener = u.inner; start = u.start; closer = item; index = i; outer = u.outer }) depth) (closing t cs i s)
 unfolding closer
@@ -155,7 +155,7 @@ pub close-closed : {W : List ℕ} {base marks k w item : ℕ} → k ≢ 0 → (p
     → x ≡ get_or (closing_of (op_at W (wd W (base + p)))) 0 → y ≡ op_at W item → x ≡ y
     → Given W (wd W (base + p)) (base + (p + 1)) (w - (p + 1)) W1
     → W' ≡ set W1 (close_word (wd W (base + p))) (word 7 (end_at W1 item)) → slot_end (wd W (base + p)) ≤ length W1
-    → SectionClosed W base marks w k i item (On (record { write = p + 1; depth = k - 1; index = i })) W'
+    → Closed W base marks w k i item (On (record { write = p + 1; depth = k - 1; index = i })) W'
 close-closed {W} {base} {marks} {k} {w} {item} n p x y i W1 W' ep ex ey h a close room =
     record {
       answer = λ g. (takes g).0;
@@ -279,7 +279,7 @@ module _ {W : List ℕ} {base marks write depth item : ℕ} (g : LookAt W base m
       rw (bracket-opens g.k g.cs i g.s is) (on here (omega arith) ai)
 
   pub look-closes : (o i : ℕ) (r : Bracket) (W' : List ℕ) → o ≡ op_at W item → is_opener o ≡ false → is_closer o ≡ true
-      → SectionClosed W base marks write depth i item r W'
+      → Closed W base marks write depth i item r W'
       → Follows W' g.X base marks g.lo g.m write i r (bracket g.k g.cs i g.s)
   look-closes o i r W' e h c w =
       let is : o ≡ g.k.op = e ∙ tree-op g.tree in

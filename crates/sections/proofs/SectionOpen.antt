@@ -8,7 +8,7 @@ use Rattle.molang.{specs.Forest.{Token, Forest, nil, in_order}, specs.Message.{s
 use Rattle.molang.{specs.Sections.{Open, section, placed, position, outermost, closed}, proofs.OpenCount.{depth_of}}
 use Rattle.ops.specs.Operators.{is_opener}
 use Rattle.nodes.{specs.Store.{wd, slot_start, TokenAt, RepT}, proofs.Store.{tree-below, back-le, back_count}, proofs.Keeping.{tree-beside}}
-use Rattle.sections.specs.Flat.{unclosed, Fails, Written, Opener, Standing, outer, inner, NamedAt, UnclosedNamed}
+use Rattle.sections.specs.Flat.{unclosed, Fails, Written, Opener, Standing, outer, inner, NamedAt, Named}
 use Rattle.sections.specs.declared.Flat.TheVariants.{Unclosed as Unclosing}
 use Rattle.levels.specs.Failures as failures
 use Rattle.levels.specs.declared.failure.Unclosed.{Unclosed}
@@ -154,7 +154,7 @@ pub record Names (W : List ℕ) (u : Unclosed) (o : Token) (i : ℕ) (p : Token)
 
 pub names : {W X : List ℕ} {base marks lo l m k' w' k i : ℕ} {s : Open} {o : Token} {u : Unclosed} → Standing W X base marks lo l k' w' s
     → Opener W X base marks l m k' w' k o i
-    → UnclosedNamed W base marks k u → Names W u o i (outermost o s)
+    → Named W base marks k u → Names W u o i (outermost o s)
 names {w' = w'} st x n =
     let h : w' < w' + 1 = omega arith in
     record {
@@ -166,7 +166,7 @@ names {w' = w'} st x n =
 -- ---- the end of the list
 
 pub standing-unclosed : {W X : List ℕ} {base marks lo hi k w : ℕ} {s : Open} {u : Unclosed} → Standing W X base marks lo hi k w s → k ≢ 0
-    → UnclosedNamed W base marks k u
+    → Named W base marks k u
     → Fails W (closed s) (Unclosing u)
 unfolding closed
 standing-unclosed (outer v e) n a = absurd (n e)

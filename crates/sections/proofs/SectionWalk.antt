@@ -8,7 +8,7 @@ use Rattle.molang.specs.{Forest.{Token, Forest, nil, node, in_order, count}, Mes
 use Rattle.molang.specs.{Sections.{Open, outside, position, Walked, mismatch, sections}, Free.{flat}}
 use Rattle.nodes.{specs.Store.{wd, Seg, RepF, RepT, Kept}, proofs.Runs.{seg-keep}, proofs.Store.{rep-le, rep-count, tree-first, back_count}}
 use Rattle.nodes.proofs.Keeping.{free-above, free_part, kept_then, rep-beside}
-use Rattle.sections.specs.Flat.{mismatched, Stands, Fails, Standing, outer, inner, LookAt, Follows, on, ends, Looked, NamedAt, UnclosedNamed}
+use Rattle.sections.specs.Flat.{mismatched, Stands, Fails, Standing, outer, inner, LookAt, Follows, on, ends, Looked, NamedAt, Named}
 use Rattle.sections.specs.{Flat.{CanSection}, declared.Flat.TheVariants.{Mismatched, Unclosed as Unclosing}}
 use Rattle.sections.specs.{declared.Reached.{Reached}, declared.Bracket.{Bracket}, declared.Bracket.TheVariants.{On, Differs}}
 use Rattle.levels.specs.{Failures.{TellsMismatch}, declared.failure.Mismatch.{Mismatch}, declared.failure.Unclosed.{Unclosed}}
@@ -232,7 +232,7 @@ module _ {W₀ : List ℕ} {base n : ℕ} {g : CanSection W₀ base n} {W : List
       (omega (arith, v.behind, v.count, v.long, g.room))
 
   pub walk-unclosed : (rs : List ℕ) (rest : Forest) → WalkAt W₀ base n g W read write depth index rs rest → n ≤ read → depth ≢ 0
-      → (u : Unclosed) → UnclosedNamed W base (base + n) depth u
+      → (u : Unclosed) → Named W base (base + n) depth u
       → Fails W (sections 0 (outside nil) g.f) (Unclosing u)
   unfolding sections count
   walk-unclosed (b ∷ bs) rest v h z u a = absurd (omega (arith, v.count))

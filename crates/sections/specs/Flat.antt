@@ -125,14 +125,14 @@ pub data Standing (W X : List ℕ) (base marks lo : ℕ) : ℕ → ℕ → ℕ �
 -- ---- one token
 
 -- There is room for one item, and for the marks of one section more.
-pub record CanOpenSection (W : List ℕ) (base marks write depth index : ℕ) : Type 0 where
+pub record CanOpen (W : List ℕ) (base marks write depth index : ℕ) : Type 0 where
   pub apart : base + write < marks
   pub room : marks + 2 * depth + 2 ≤ length W
   pub word : write < 2 ^ 32
   pub start : index + 1 < 2 ^ 32
 
 -- The opener is written, and the marks say in which word of the array, and its position.
-pub record SectionOpened (W : List ℕ) (base marks write depth index opener : ℕ) (r : Reached) (W' : List ℕ) : Type 0 where
+pub record Opened (W : List ℕ) (base marks write depth index opener : ℕ) (r : Reached) (W' : List ℕ) : Type 0 where
   pub more : r.write ≡ write + 1
   pub deeper : r.depth ≡ depth + 1
   pub at : r.index ≡ index
@@ -168,7 +168,7 @@ pub data Follows (W X : List ℕ) (base marks lo hi w i : ℕ) : Bracket → Wal
       → Follows W X base marks lo hi w i (Differs m depth) (mismatch ms)
 
 -- A closer while a section is open: no word changes but those of the list's own slots.
-pub record SectionClosed (W : List ℕ) (base marks write depth index item : ℕ) (r : Bracket) (W' : List ℕ) : Type 0 where
+pub record Closed (W : List ℕ) (base marks write depth index item : ℕ) (r : Bracket) (W' : List ℕ) : Type 0 where
   pub answer : (g : LookAt W base marks write depth item)
       → Follows W' g.X base marks g.lo g.m write index r (closing g.k g.cs index g.s)
   pub same : (g : LookAt W base marks write depth item) (j : ℕ) → Free g.X g.lo g.m j → wd W' j ≡ wd W j
@@ -190,7 +190,7 @@ pub record NamedAt (W : List ℕ) (base marks depth : ℕ) : Type 0 where
   pub outermost : base + wd W (marks + 2 * 0) < length W
 
 -- u names the innermost and the outermost open section by the slots of their openers, and the innermost by its position too.
-pub record UnclosedNamed (W : List ℕ) (base marks depth : ℕ) (u : Unclosed) : Type 0 where
+pub record Named (W : List ℕ) (base marks depth : ℕ) (u : Unclosed) : Type 0 where
   pub inner : u.inner ≡ wd W (base + wd W (marks + 2 * (depth - 1)))
   pub start : u.start ≡ wd W (marks + 2 * (depth - 1) + 1)
   pub outer : u.outer ≡ wd W (base + wd W (marks + 2 * 0))

@@ -6,8 +6,8 @@ ghost use Rattle.std.specs.Prelude.{◌≡◌, ◌≢◌, ◌+◌, ◌*◌, ◌-
 ghost use Rattle.molang.specs.Nesting.{open_after};
 ghost use Rattle.nodes.specs.Store.{wd};
 ghost use Rattle.nodes.specs.Slots.{op_at};
-ghost use Rattle.sections.specs.Flat.{CanJoin, Joined, MemberAt, Membered, CanSection, Sectioned, CanOpenSection, SectionOpened, LookAt, Looked};
-ghost use Rattle.sections.specs.Flat.{open_in, SectionClosed, NamedAt, UnclosedNamed};
+ghost use Rattle.sections.specs.Flat.{CanJoin, Joined, MemberAt, Membered, CanSection, Sectioned, CanOpen, Opened, LookAt, Looked};
+ghost use Rattle.sections.specs.Flat.{open_in, Closed, NamedAt, Named};
 ghost use Rattle.sections.specs.Matching.{LosesNothing};
 
 use levels::failure::{Failure, Mismatch, Unclosed};
@@ -101,7 +101,7 @@ fn opener_at(work: &[u32], marks: usize, k: usize) -> usize
 // The innermost and the outermost of the open sections, one at least.
 fn still_open(work: &[u32], base: usize, marks: usize, depth: usize) -> Unclosed
     requires { NamedAt work.now base marks depth }
-    ensures { UnclosedNamed work.now base marks depth result }
+    ensures { Named work.now base marks depth result }
 {
     let last = depth - 1;
     let innermost = opener_at(work, marks, last);
@@ -115,8 +115,8 @@ fn still_open(work: &[u32], base: usize, marks: usize, depth: usize) -> Unclosed
 
 // An opener opens a section: it is written, and the section's two words say where, and its index plus one.
 fn open_section(work: &mut [u32], base: usize, marks: usize, at: Reached, opener: u32) -> Reached
-    requires { CanOpenSection work.old base marks at.write at.depth at.index }
-    ensures { SectionOpened work.old base marks at.write at.depth at.index opener result work.new }
+    requires { CanOpen work.old base marks at.write at.depth at.index }
+    ensures { Opened work.old base marks at.write at.depth at.index opener result work.new }
 {
     let write = at.write;
     let depth = at.depth;
@@ -135,7 +135,7 @@ fn open_section(work: &mut [u32], base: usize, marks: usize, at: Reached, opener
 // it differs. Either way one bracket fewer is open.
 fn close_section(work: &mut [u32], base: usize, marks: usize, at: Reached, closer: u32) -> Bracket
     requires { LookAt work.old base marks at.write at.depth closer × (at.depth ≢ 0) × (at.index < 2 ^ 32) }
-    ensures section_closed { SectionClosed work.old base marks at.write at.depth at.index closer result work.new }
+    ensures closed { Closed work.old base marks at.write at.depth at.index closer result work.new }
     ensures result_value { open_in result ≡ at.depth - 1 }
 {
     let inner = at.depth - 1;

@@ -9,7 +9,7 @@ use native.Mathlib.Nat.{div-add-mod', mod-lt, div-lt_iff_lt-mul}
 use lib.{Dec.{leb, ltb}, ListN.{length, get_or, length-append, get_or-append}, Seq.{get_or-append-add}}
 use borrow.Author.Tests.{leb-true, leb-false, ltb-true, ltb-false}
 use Rattle.molang.{specs.Forest.{Token}, specs.Lines.{tokens_from}, proofs.Booleans.{either}, proofs.Trees.{both}}
-use Rattle.shortlists.specs.ShortLists.{led, led_by_each, of_length, up_to, powers, among, are_letters, StandsAmong, is_alphabet, list_at, Smaller}
+use Rattle.shortlists.specs.ShortLists.{led, before, of_length, up_to, powers, among, are_letters, Stands, is_alphabet, list_at, Smaller}
 use Rattle.shortlists.specs.ShortLists.{differs, agrees}
 use Rattle.shortlists.proofs.AlphabetLaws.{Distinct, alphabet, apart, among-at, Occurs, occurs}
 
@@ -20,13 +20,13 @@ unfolding led
 length-led a [] = refl
 length-led a (l ∷ ls) = ap suc (length-led a ls)
 
-length_before : (letters : List ℕ) (ls : List (List ℕ)) → length (led_by_each letters ls) ≡ length letters * length ls
-unfolding led_by_each
+length_before : (letters : List ℕ) (ls : List (List ℕ)) → length (before letters ls) ≡ length letters * length ls
+unfolding before
 length_before [] ls = sym (zero-mul (length ls))
 length_before (a ∷ letters) ls =
     omega (
       arith,
-      length-append (led a ls) (led_by_each letters ls),
+      length-append (led a ls) (before letters ls),
       length-led a ls,
       length_before letters ls,
       suc-mul (length letters) (length ls),
@@ -58,16 +58,16 @@ at-led a (l ∷ ls) (suc r) h = at-led a ls r (omega arith)
 
 -- The list at q times the number of lists, and r: letter q before list r.
 pub at_before : (letters : List ℕ) (ls : List (List ℕ)) (q r i : ℕ) → i ≡ q * length ls + r → q < length letters → r < length ls
-    → get_or (led_by_each letters ls) i [] ≡ get_or letters q 0 ∷ get_or ls r []
-unfolding led_by_each
+    → get_or (before letters ls) i [] ≡ get_or letters q 0 ∷ get_or ls r []
+unfolding before
 at_before [] ls q r i e hq hr = absurd (omega arith)
 at_before (a ∷ letters) ls zero r i e hq hr =
     let same : i ≡ r = omega (arith, zero-mul (length ls)) in
-    rw same (get_or-append (led a ls) (led_by_each letters ls) [] r (omega (arith, length-led a ls)) ∙ at-led a ls r hr)
+    rw same (get_or-append (led a ls) (before letters ls) [] r (omega (arith, length-led a ls)) ∙ at-led a ls r hr)
 at_before (a ∷ letters) ls (suc q) r i e hq hr =
     let later = q * length ls + r in
     let same : i ≡ length (led a ls) + later = omega (arith, length-led a ls, suc-mul q (length ls)) in
-    rw same (get_or-append-add (led a ls) (led_by_each letters ls) later [] ∙ at_before letters ls q r later refl (omega arith) hr)
+    rw same (get_or-append-add (led a ls) (before letters ls) later [] ∙ at_before letters ls q r later refl (omega arith) hr)
 
 -- A position among lists that begin with each letter, by that letter's index and the position of what stands behind it.
 record Split (letters : List ℕ) (ls : List (List ℕ)) (i : ℕ) : Type 0 where
@@ -76,9 +76,9 @@ record Split (letters : List ℕ) (ls : List (List ℕ)) (i : ℕ) : Type 0 wher
   pub first_below : first < length letters
   pub rest_below : rest < length ls
   pub whole : i ≡ first * length ls + rest
-  pub is : get_or (led_by_each letters ls) i [] ≡ get_or letters first 0 ∷ get_or ls rest []
+  pub is : get_or (before letters ls) i [] ≡ get_or letters first 0 ∷ get_or ls rest []
 
-split : (letters : List ℕ) (ls : List (List ℕ)) (i : ℕ) → i < length (led_by_each letters ls) → Split letters ls i
+split : (letters : List ℕ) (ls : List (List ℕ)) (i : ℕ) → i < length (before letters ls) → Split letters ls i
 split letters [] i h = absurd (omega (arith, length_before letters [], mul-zero (length letters)))
 split letters (l ∷ rest) i h =
     let ls = l ∷ rest in
@@ -262,7 +262,7 @@ abbrev Once : List (List ℕ) → Type 0
 Once ls = (i j : ℕ) → i < length ls → j < length ls → get_or ls i [] ≡ get_or ls j [] → i ≡ j
 
 module _ (letters : List ℕ) (distinct : Distinct letters) where
-  once-before : (ls : List (List ℕ)) → Once ls → Once (led_by_each letters ls)
+  once-before : (ls : List (List ℕ)) → Once ls → Once (before letters ls)
   once-before ls once i j hi hj e =
       let s = split letters ls i hi in
       let t = split letters ls j hj in
@@ -315,7 +315,7 @@ once-listed letters n is i j hi hj e =
 -- ---- Every list, and no other
 
 module _ (letters : List ℕ) where
-  stands-before : (a : ℕ) (l : List ℕ) (ls : List (List ℕ)) → Occurs letters a → StandsAmong ls l → StandsAmong (led_by_each letters ls) (a ∷ l)
+  stands-before : (a : ℕ) (l : List ℕ) (ls : List (List ℕ)) → Occurs letters a → Stands ls l → Stands (before letters ls) (a ∷ l)
   stands-before a l ls o s =
       let q = o.index in
       let r = s.position in
@@ -327,7 +327,7 @@ module _ (letters : List ℕ) where
         is = at_before letters ls q r (q * n + r) refl o.below s.below ∙ rw (o.is, s.is) refl;
       }
 
-  stands_of : (l : List ℕ) → are_letters letters l ≡ true → StandsAmong (of_length letters (length l)) l
+  stands_of : (l : List ℕ) → are_letters letters l ≡ true → Stands (of_length letters (length l)) l
   unfolding of_length are_letters
   stands_of [] are = record { position = 0; below = omega arith; is = refl }
   stands_of (a ∷ l) are =
@@ -335,7 +335,7 @@ module _ (letters : List ℕ) where
       stands-before a l (of_length letters (length l)) (occurs a letters parts.0) (stands_of l parts.1)
 
   -- EVERY LIST of the letters, of at most n, stands at a position below the count.
-  pub every : (l : List ℕ) (n : ℕ) → are_letters letters l ≡ true → length l ≤ n → StandsAmong (up_to letters n) l
+  pub every : (l : List ℕ) (n : ℕ) → are_letters letters l ≡ true → length l ≤ n → Stands (up_to letters n) l
   unfolding powers
   every l n are short =
       let s = stands_of l are in

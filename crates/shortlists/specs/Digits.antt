@@ -5,7 +5,7 @@ use Rattle.shortlists.specs.declared.digits.Standing.{Standing}
 use Rattle.shortlists.specs.ShortLists.{up_to, powers, is_alphabet}
 
 -- So few letters, and so short lists, that their number fits.
-pub record CanCountLists (k n : ℕ) : Type 0 where
+pub record CanCount (k n : ℕ) : Type 0 where
   pub few : k ≤ 8
   pub short : n ≤ 6
 

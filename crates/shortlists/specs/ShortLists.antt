@@ -14,14 +14,14 @@ led a [] = []
 led a (l ∷ ls) = (a ∷ l) ∷ led a ls
 
 -- Each letter before each list, by the letter first.
-unfoldable pub led_by_each : List ℕ → List (List ℕ) → List (List ℕ)
-led_by_each [] ls = []
-led_by_each (a ∷ letters) ls = led a ls ++ led_by_each letters ls
+unfoldable pub before : List ℕ → List (List ℕ) → List (List ℕ)
+before [] ls = []
+before (a ∷ letters) ls = led a ls ++ before letters ls
 
 -- The lists of n letters.
 unfoldable pub of_length : List ℕ → ℕ → List (List ℕ)
 of_length letters zero = [] ∷ []
-of_length letters (suc n) = led_by_each letters (of_length letters n)
+of_length letters (suc n) = before letters (of_length letters n)
 
 -- EVERY LIST of at most n letters, short ones first.
 unfoldable pub up_to : List ℕ → ℕ → List (List ℕ)
@@ -71,7 +71,7 @@ are_letters letters [] = true
 are_letters letters (a ∷ l) = among a letters && are_letters letters l
 
 -- The list stands at a position among these.
-pub record StandsAmong (ls : List (List ℕ)) (l : List ℕ) : Type 0 where
+pub record Stands (ls : List (List ℕ)) (l : List ℕ) : Type 0 where
   pub position : ℕ
   pub below : position < length ls
   pub is : get_or ls position [] ≡ l

@@ -6,7 +6,7 @@ mod alphabet;
 mod digits;
 
 ghost use Rattle.std.specs.Prelude.{◌≡◌, suc};
-ghost use Rattle.shortlists.specs.Digits.{CanCountLists};
+ghost use Rattle.shortlists.specs.Digits.{CanCount};
 ghost use Rattle.shortlists.specs.ShortLists.{powers};
 ghost use Rattle.shortlists.specs.Answers.{counted_of, count_told, listed_of, list_told, words_at};
 
@@ -40,7 +40,7 @@ pub struct Short {
 
 // How many lists of at most n letters there are over so many letters: 1, that many, its square and on. `count` has seen both numbers.
 fn total(letters: u64, n: u64) -> u64
-    requires { CanCountLists letters n }
+    requires { CanCount letters n }
     ensures { result ≡ powers letters (suc n) }
 {
     let mut all = 1u64;

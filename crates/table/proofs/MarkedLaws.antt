@@ -7,7 +7,7 @@ use lib.{Dec.{leb, ltb}, ListN.{length, take, drop, get_or, set, replicate, leng
 use lib.Seq.{take_all, drop-cons, append_snoc, set_at, get_or-take, get_or-drop}
 use borrow.Author.Tests.{lt-ltb, le-ltb, eq-eqb, ne_eqb}
 use Rattle.molang.specs.{Words.{word, low_of, token_words}, Lines.{write_mark, tree_mark, close_in, node_words, record_of}}
-use Rattle.table.specs.Marked.{is_mark, unmarked, bare_token, token_word, node_word, record_word, second_at, message_word, operator_word}
+use Rattle.table.specs.Marked.{is_mark, unmarked, bare, token_word, node_word, record_word, second_at, message_word, operator_word}
 use Rattle.table.specs.Marked.{beside_mark, words_by, marked_word, counts_by, marked_count, first_words, fitting, said_count}
 use Rattle.table.specs.Marked.{said_word, holds_from}
 
@@ -62,7 +62,7 @@ unfolding token_word token_words node_word node_words
 node-token n field h =
     let m = n % 100000000 in
     let op : m / 100000 % 2 ^ 12 ≡ m / 100000 = omega arith in
-    let same : token_words (bare_token (m / 100000) (m / 100 % 100) (m % 100)) ≡ take 5 (node_words (n ∷ [])) =
+    let same : token_words (bare (m / 100000) (m / 100 % 100) (m % 100)) ≡ take 5 (node_words (n ∷ [])) =
     rw (op, low_small (m / 100 % 100) (omega arith), low_small (m % 100) (omega arith)) refl
     in
     ap (λ (ws : List ℕ). get_or ws field 0) same ∙ get_or-take 5 (node_words (n ∷ [])) field 0 (omega arith)

@@ -20,8 +20,8 @@ unfoldable pub is_refusal : ℕ → ℕ → List ℕ → Bool
 is_refusal number place said = eqb (get_or said 0 0) refused_mark && eqb number (get_or said 1 0) && eqb place (get_or said 2 0)
 
 -- What a call leaves in each word of a work buffer of ones: a refusal leaves it as it was.
-unfoldable pub kept_word : List ℕ → ℕ
-kept_word said = elim (eqb (get_or said 0 0) refused_mark) [ true ↦ 1 | false ↦ 0 ]
+unfoldable pub kept : List ℕ → ℕ
+kept said = elim (eqb (get_or said 0 0) refused_mark) [ true ↦ 1 | false ↦ 0 ]
 
 -- Whether a buffer holds what the line says for this mark, and `rest` in each word after it.
 abbrev pub holding : ℕ → List ℕ → ℕ → List ℕ → Bool
@@ -30,4 +30,4 @@ holding mark said rest buffer = holds_from 0 said (said_count mark said) rest bu
 -- Whether a parse call left this, the work buffer having been of ones and the others of zeros.
 unfoldable pub is_left : List ℕ → List ℕ → List ℕ → List ℕ → Bool
 is_left tree messages work said =
-    holding tree_mark said 0 tree && holding message_mark said 0 messages && holding zeros_mark said (kept_word said) work
+    holding tree_mark said 0 tree && holding message_mark said 0 messages && holding zeros_mark said (kept said) work

@@ -20,12 +20,12 @@ abbrev pub most : ℕ
 most = 4294967295
 
 -- WORDS. A token of payload 0: its words hold twelve bits of its number and 29 of a start or an end.
-abbrev pub bare_token : ℕ → ℕ → ℕ → Token
-bare_token op start end = record { op = op % 2 ^ 12; variant = 0; value = 0; start = low_of start; end = low_of end; close = low_of end }
+abbrev pub bare : ℕ → ℕ → ℕ → Token
+bare op start end = record { op = op % 2 ^ 12; variant = 0; value = 0; start = low_of start; end = low_of end; close = low_of end }
 
 -- A word of that token.
 unfoldable pub token_word : ℕ → ℕ → ℕ → ℕ → ℕ
-token_word op start end field = get_or (token_words (bare_token op start end)) field 0
+token_word op start end field = get_or (token_words (bare op start end)) field 0
 
 -- A word of a node.
 unfoldable pub node_word : ℕ → ℕ → ℕ

@@ -110,9 +110,9 @@ items_text operands [] = []
 items_text operands (op ∷ ops) = item_text operands op ++ items_text (operands_after operands op) ops
 
 -- A list.
-unfoldable pub operators_text : List ℕ → List ℕ
-operators_text [] = ascii "no tokens "
-operators_text (op ∷ ops) = items_text 0 (op ∷ ops)
+unfoldable pub list_text : List ℕ → List ℕ
+list_text [] = ascii "no tokens "
+list_text (op ∷ ops) = items_text 0 (op ∷ ops)
 
 -- TREES. A count of children, if there are some.
 unfoldable pub children_text : ℕ → List ℕ
@@ -155,15 +155,15 @@ repeated_text (n ∷ op ∷ m ∷ ms) = unknown_text
 
 -- A list that is read at one version.
 unfoldable pub read_at_text : List ℕ → ℕ → List ℕ
-read_at_text operators bits = operators_text operators ++ ascii "at " ++ version_text bits
+read_at_text operators bits = list_text operators ++ ascii "at " ++ version_text bits
 
 -- A list that is read with a nesting limit.
 unfoldable pub read_within_text : List ℕ → ℕ → List ℕ
-read_within_text operators limit = operators_text operators ++ ascii "within " ++ decimal limit
+read_within_text operators limit = list_text operators ++ ascii "within " ++ decimal limit
 
 -- A list that is read at 4, 5 and 6.
 unfoldable pub read_at_all_text : List ℕ → List ℕ
-read_at_all_text operators = operators_text operators ++ ascii "at 4, 5 and 6"
+read_at_all_text operators = list_text operators ++ ascii "at 4, 5 and 6"
 
 -- A tree that is written.
 unfoldable pub writing_text : List ℕ → List ℕ

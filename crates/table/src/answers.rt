@@ -1,7 +1,7 @@
 // Whether a call is answered as its line says: what is told, and what the lent buffers hold after it. Leans on the crate's root (the words
 // of a line) and molang (the marks); specs/Answers says what a line means by its numbers.
 ghost use Rattle.std.specs.Prelude.{◌≡◌};
-ghost use Rattle.table.specs.Answers.{message_count, said_number, is_count, is_refusal, kept_word, is_left};
+ghost use Rattle.table.specs.Answers.{message_count, said_number, is_count, is_refusal, kept, is_left};
 
 use crate::{MOST, at, holds, items, next_mark};
 use molang::lines::{MESSAGE, REFUSED, TREE, ZEROS};
@@ -46,7 +46,7 @@ pub fn is_refusal(number: u32, place: usize, said: &[u32]) -> bool
 
 // What a call leaves in each word of a work buffer of ones: a refusal leaves it as it was.
 fn kept_word(said: &[u32]) -> u32
-    ensures { result ≡ kept_word said.now }
+    ensures { result ≡ kept said.now }
 {
     if at(said, 0) == REFUSED {
         return 1;

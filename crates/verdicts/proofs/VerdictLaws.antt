@@ -14,23 +14,23 @@ use Rattle.parse.specs.{Answers.{told_of, HasParsed}, declared.Answer.{Answer as
 use Rattle.write.specs.Answers.{call}
 use Rattle.table.specs.{Marked.{unmarked, second_at, marked_count, first_words, fitting}, Answers.{holding, is_left}}
 use Rattle.verdicts.specs.{declared.Verdict.{Verdict}, declared.Verdict.TheVariants.{Same, Answer, Words}}
-use Rattle.verdicts.specs.Verdicts.{first_difference, is_read, read_verdict, is_written, write_verdict, line_call, fresh_call, writing_call, Difference}
-use Rattle.verdicts.specs.Verdicts.{difference_of, asked_words, from_version, asked_verdict, line_verdict}
+use Rattle.verdicts.specs.Verdicts.{verdict, is_read, read_verdict, is_written, write_verdict, lent_call, list_call, tree_call, Difference}
+use Rattle.verdicts.specs.Verdicts.{verdict_of, asked_words, from_version, asked_verdict, line_verdict}
 use Rattle.verdicts.specs.contracts.Verdict.{the_type}
 
 -- ---- What a call told and left
 
 pub read-judged : (c : Call) (r : Told') (tree messages work said : List ℕ) → HasParsed c r tree messages work
-    → first_difference (is_read (told_of r) said) (is_left tree messages work said) ≡ read_verdict c said
+    → verdict (is_read (told_of r) said) (is_left tree messages work said) ≡ read_verdict c said
 unfolding read_verdict
 read-judged c r tree messages work said h =
     let left : is_left tree messages work said ≡ is_left (tree_after c) (messages_after c) (work_after c) said =
     rw (h.tree, h.messages, h.work) refl
     in
-    ap (λ (t : Told). first_difference (is_read t said) (is_left tree messages work said)) h.told ∙ ap (first_difference (is_read (answered c) said)) left
+    ap (λ (t : Told). verdict (is_read t said) (is_left tree messages work said)) h.told ∙ ap (verdict (is_read (answered c) said)) left
 
 pub write-judged : (c : WriteCall) (t : WriteTold) (list said : List ℕ) → t ≡ write_answered c → list ≡ list_after c
-    → first_difference (is_written t said) (holding list_mark said 0 list) ≡ write_verdict c said
+    → verdict (is_written t said) (holding list_mark said 0 list) ≡ write_verdict c said
 write-judged c t list said told left = unfold write_verdict in rw (told, left) refl
 
 -- ---- Fresh buffers
@@ -47,12 +47,12 @@ part n m k buffer e h = rw (sub-zero n, e) (front n m k h)
 
 pub read-fresh : (list said : List ℕ) {tree work : List ℕ} (limit : ℕ) {passed version : ℤ} → passed ≡ version
     → tree ≡ replicate (21 * (length list / 5)) 0 → work ≡ replicate (64 * (length list / 5) + 64) 1
-    → read_verdict (line_call list passed limit tree work) said ≡ read_verdict (fresh_call list version limit) said
-read-fresh list said limit v t w = unfold named_call fresh_call call_for in rw (v, t, w) refl
+    → read_verdict (lent_call list passed limit tree work) said ≡ read_verdict (list_call list version limit) said
+read-fresh list said limit v t w = unfold named_call list_call call_for in rw (v, t, w) refl
 
 pub write-fresh : (tree said : List ℕ) {list : List ℕ} → list ≡ replicate (length tree / 7 * 15) 0
-    → write_verdict (call tree list) said ≡ write_verdict (writing_call tree) said
-write-fresh tree said e = unfold writing_call in rw e refl
+    → write_verdict (call tree list) said ≡ write_verdict (tree_call tree) said
+write-fresh tree said e = unfold tree_call in rw e refl
 
 pub asked-words : (words laid asked : List ℕ) (n : ℕ) → length words ≡ 20485 → laid ≡ first_words (length words) asked
     → n ≡ fitting (length words) (marked_count asked) → take (n - 0) laid ≡ asked_words asked
@@ -75,7 +75,7 @@ line-parts line middle is h =
 
 -- What is found first stands.
 found : (v : Verdict) (later : Option Difference) → OneOf (1 ∷ 2 ∷ []) (tag_of the_type v)
-    → difference_of v ≡ first_of (difference_of v ∷ later ∷ [])
+    → verdict_of v ≡ first_of (verdict_of v ∷ later ∷ [])
 unfolding first_of
 found Same later o = absurd (miss (1 ∷ 2 ∷ []) 0 tt o)
 found Answer later o = refl
@@ -87,16 +87,16 @@ module _ (list : List ℕ) (limit : ℕ) (said : List ℕ) (bits last : ℕ) whe
 
   -- The version at which it is read, and those after it.
   turn : bits ≤ last
-      → from (last + 1 - bits) bits ≡ first_of (read_verdict (fresh_call list (version_of bits) limit) said ∷ from (last - bits) (bits + 1) ∷ [])
+      → from (last + 1 - bits) bits ≡ first_of (read_verdict (list_call list (version_of bits) limit) said ∷ from (last - bits) (bits + 1) ∷ [])
   turn h = unfold from_version in let e : last + 1 - bits ≡ suc (last - bits) = omega arith in rw e refl
 
-  module _ (h : bits ≤ last) (v : Verdict) (is : difference_of v ≡ read_verdict (fresh_call list (version_of bits) limit) said) where
+  module _ (h : bits ≤ last) (v : Verdict) (is : verdict_of v ≡ read_verdict (list_call list (version_of bits) limit) said) where
     pub found-same : v ≡ Same → from (last + 1 - bits) bits ≡ from (last + 1 - (bits + 1)) (bits + 1)
     found-same e =
         let n : last + 1 - (bits + 1) ≡ last - bits = omega arith in
-        rw n (turn h ∙ after_none _ (from (last - bits) (bits + 1)) (sym is ∙ ap difference_of e))
+        rw n (turn h ∙ after_none _ (from (last - bits) (bits + 1)) (sym is ∙ ap verdict_of e))
 
-    pub found-other : OneOf (1 ∷ 2 ∷ []) (tag_of the_type v) → difference_of v ≡ from (last + 1 - bits) bits
+    pub found-other : OneOf (1 ∷ 2 ∷ []) (tag_of the_type v) → verdict_of v ≡ from (last + 1 - bits) bits
     found-other o =
         let later = from (last - bits) (bits + 1) in
         found v later o ∙ (ap (λ (x : Option Difference). first_of (x ∷ later ∷ [])) is ∙ sym (turn h))

@@ -21,14 +21,14 @@ pub data Difference : Type 0 where
   another_answer other_words : Difference
 
 -- What each case of `Verdict` says: what differs, or that nothing does.
-abbrev pub difference_of : Verdict → Option Difference
-difference_of Same = none
-difference_of Answer = some another_answer
-difference_of Words = some other_words
+abbrev pub verdict_of : Verdict → Option Difference
+verdict_of Same = none
+verdict_of Answer = some another_answer
+verdict_of Words = some other_words
 
 -- What a call is told and what it leaves are each as the line says, or the first that is not.
-unfoldable pub first_difference : Bool → Bool → Option Difference
-first_difference told left = first_of (must told another_answer ∷ must left other_words ∷ [])
+unfoldable pub verdict : Bool → Bool → Option Difference
+verdict told left = first_of (must told another_answer ∷ must left other_words ∷ [])
 
 -- READING. Whether a line says what a parse call is told.
 unfoldable pub is_read : Told → List ℕ → Bool
@@ -38,21 +38,21 @@ is_read (refused number place) said = is_refusal number place said
 
 -- Whether a parse call is answered as the line says.
 unfoldable pub read_verdict : Call → List ℕ → Option Difference
-read_verdict c said = first_difference (is_read (answered c) said) (is_left (tree_after c) (messages_after c) (work_after c) said)
+read_verdict c said = verdict (is_read (answered c) said) (is_left (tree_after c) (messages_after c) (work_after c) said)
 
 -- The call for a list whose text is as long as it has tokens, with the operators that it has, a lent tree and a lent work buffer.
-abbrev pub line_call : List ℕ → ℤ → ℕ → List ℕ → List ℕ → Call
-line_call list version limit tree work = named_call list tree (replicate 16 0) work (length list / 5) version limit
+abbrev pub lent_call : List ℕ → ℤ → ℕ → List ℕ → List ℕ → Call
+lent_call list version limit tree work = named_call list tree (replicate 16 0) work (length list / 5) version limit
 
 -- The same with buffers as molang's lines have them.
-unfoldable pub fresh_call : List ℕ → ℤ → ℕ → Call
-fresh_call list version limit = call_for (length list / 5) list (set_number (named operator_field list) 111) version limit
+unfoldable pub list_call : List ℕ → ℤ → ℕ → Call
+list_call list version limit = call_for (length list / 5) list (set_number (named operator_field list) 111) version limit
 
 -- Whether a list is answered so at n versions from these bits on.
 unfoldable pub from_version : ℕ → ℕ → List ℕ → ℕ → List ℕ → Option Difference
 from_version zero bits list limit said = none
 from_version (suc n) bits list limit said =
-    first_of (read_verdict (fresh_call list (version_of bits) limit) said ∷ from_version n (bits + 1) list limit said ∷ [])
+    first_of (read_verdict (list_call list (version_of bits) limit) said ∷ from_version n (bits + 1) list limit said ∷ [])
 
 -- Whether it is at every version that the mark asks for, with the nesting limit that it asks for.
 unfoldable pub at_versions : List ℕ → ℕ → List ℕ → Option Difference
@@ -65,16 +65,16 @@ is_written (unwritten number place) said = is_refusal number place said
 
 -- Whether a write call is answered as the line says.
 unfoldable pub write_verdict : WriteCall → List ℕ → Option Difference
-write_verdict c said = first_difference (is_written (write_answered c) said) (holding list_mark said 0 (list_after c))
+write_verdict c said = verdict (is_written (write_answered c) said) (holding list_mark said 0 (list_after c))
 
 -- The call for a tree, with room for three tokens a node.
-unfoldable pub writing_call : List ℕ → WriteCall
-writing_call tree = record { tree = tree; list = replicate (length tree / 7 * 15) 0 }
+unfoldable pub tree_call : List ℕ → WriteCall
+tree_call tree = record { tree = tree; list = replicate (length tree / 7 * 15) 0 }
 
 -- THE VERDICT ON A LINE. Whether the calls for these words that the mark asks for are answered as the line says.
 unfoldable pub words_verdict : List ℕ → ℕ → List ℕ → Option Difference
 words_verdict words mark said =
-    elim (eqb mark write_mark) [ true ↦ write_verdict (writing_call words) said | false ↦ at_versions words mark said ]
+    elim (eqb mark write_mark) [ true ↦ write_verdict (tree_call words) said | false ↦ at_versions words mark said ]
 
 -- The words that a mark and its items stand for; none if they are more than those of 4,097 tokens.
 unfoldable pub asked_words : List ℕ → List ℕ

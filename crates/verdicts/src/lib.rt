@@ -7,7 +7,7 @@ ghost use Rattle.std.specs.Prelude.{◌≡◌, ◌≤◌, length, replicate};
 ghost use Rattle.parse.specs.Answers.{told_of};
 ghost use Rattle.write.specs.Answers.{told_of as written_told, call as write_call};
 ghost use Rattle.table.specs.Answers.{is_left};
-ghost use Rattle.verdicts.specs.Verdicts.{difference_of, first_difference, is_read, is_written, line_call, fresh_call, writing_call};
+ghost use Rattle.verdicts.specs.Verdicts.{verdict_of, verdict, is_read, is_written, lent_call, list_call, tree_call};
 ghost use Rattle.verdicts.specs.Verdicts.{read_verdict, write_verdict, at_versions, words_verdict, asked_verdict, line_verdict};
 
 use derived::version_of;
@@ -38,7 +38,7 @@ pub enum Verdict {
 
 // What a call is told and what it leaves, each as the line says or not.
 fn compared(told: bool, left: bool) -> Verdict
-    ensures { difference_of result ≡ first_difference told left }
+    ensures { verdict_of result ≡ verdict told left }
 {
     if !told {
         return Verdict::Answer;
@@ -62,7 +62,7 @@ fn is_read(answered: Answer, said: &[u32]) -> bool
 
 // Whether a parse call told and left what the line says.
 fn judged(answered: Answer, tree: &[u32], messages: &[u32], work: &[u32], said: &[u32]) -> Verdict
-    ensures { difference_of result ≡ first_difference (is_read (told_of answered) said.now)
+    ensures { verdict_of result ≡ verdict (is_read (told_of answered) said.now)
         (is_left tree.now messages.now work.now said.now) }
 {
     let told = is_read(answered, said);
@@ -79,8 +79,8 @@ fn read_with(
     work: &mut [u32],
     said: &[u32],
 ) -> Verdict
-    ensures { difference_of result ≡ read_verdict
-        (line_call list.now version limit tree.old work.old) said.now }
+    ensures { verdict_of result ≡ read_verdict
+        (lent_call list.now version limit tree.old work.old) said.now }
 {
     let mut messages = [0u32; 16];
     let n = list.len() / fields::TOKEN_WORDS;
@@ -100,7 +100,7 @@ fn is_written(written: Written, said: &[u32]) -> bool
 
 // Writes a tree, and compares.
 fn write_with(tree: &[u32], list: &mut [u32], said: &[u32]) -> Verdict
-    ensures { difference_of result ≡ write_verdict (write_call tree.now list.old) said.now }
+    ensures { verdict_of result ≡ write_verdict (write_call tree.now list.old) said.now }
 {
     let written = write(tree, list);
     let told = is_written(written, said);
@@ -130,7 +130,7 @@ fn fresh_work() -> [u32; WORK_WORDS]
 // lends a part of a list of LIST_WORDS words, here and below.
 fn read(list: &[u32], version: i16, limit: u32, said: &[u32]) -> Verdict
     requires { length list.now ≤ 20485 }
-    ensures { difference_of result ≡ read_verdict (fresh_call list.now version limit) said.now }
+    ensures { verdict_of result ≡ read_verdict (list_call list.now version limit) said.now }
 {
     let mut tree = fresh_tree();
     let mut work = fresh_work();
@@ -150,7 +150,7 @@ fn read(list: &[u32], version: i16, limit: u32, said: &[u32]) -> Verdict
 // Reads it at each version that a mark asks for: at 4, 5 and 6, or at one.
 fn read_at(list: &[u32], mark: u32, said: &[u32]) -> Verdict
     requires { length list.now ≤ 20485 }
-    ensures { difference_of result ≡ at_versions list.now mark said.now }
+    ensures { verdict_of result ≡ at_versions list.now mark said.now }
 {
     let limit = limit_of(mark);
     let last = last_version(mark);
@@ -168,7 +168,7 @@ fn read_at(list: &[u32], mark: u32, said: &[u32]) -> Verdict
 // Writes a tree into a list with room for three tokens a node, and compares.
 fn write_tree(tree: &[u32], said: &[u32]) -> Verdict
     requires { length tree.now ≤ 20485 }
-    ensures { difference_of result ≡ write_verdict (writing_call tree.now) said.now }
+    ensures { verdict_of result ≡ write_verdict (tree_call tree.now) said.now }
 {
     let mut list = fresh_tree();
     let room = tree.len() / fields::NODE_WORDS * 15;
@@ -178,7 +178,7 @@ fn write_tree(tree: &[u32], said: &[u32]) -> Verdict
 // Makes the calls that a mark asks for with these words, and compares.
 fn call(words: &[u32], mark: u32, said: &[u32]) -> Verdict
     requires { length words.now ≤ 20485 }
-    ensures { difference_of result ≡ words_verdict words.now mark said.now }
+    ensures { verdict_of result ≡ words_verdict words.now mark said.now }
 {
     if mark == WRITE {
         return write_tree(words, said);
@@ -188,7 +188,7 @@ fn call(words: &[u32], mark: u32, said: &[u32]) -> Verdict
 
 // Makes the calls that a mark with its items asks for, and compares.
 fn ask(asked: &[u32], said: &[u32]) -> Verdict
-    ensures { difference_of result ≡ asked_verdict asked.now said.now }
+    ensures { verdict_of result ≡ asked_verdict asked.now said.now }
 {
     let mut words = fresh_list();
     let n = lay(&mut words, asked);
@@ -198,7 +198,7 @@ fn ask(asked: &[u32], said: &[u32]) -> Verdict
 // Makes the calls of a line, which are those of molang's specs/Lines, and compares. A line is a mark that asks and its items, and the marks
 // that answer and theirs.
 pub fn run_line(line: &[u32]) -> Verdict
-    ensures { difference_of result ≡ line_verdict line.now }
+    ensures { verdict_of result ≡ line_verdict line.now }
 {
     if line.len() == 0 {
         return ask(line, line);

@@ -17,9 +17,9 @@ number_of HighVariant = some 10
 number_of OtherBit = some 11
 
 -- The answer to a token.
-abbrev pub token_refusal : Checked → Option Refusal
-token_refusal Passed = none
-token_refusal (Bad n p) = some (row n p)
+abbrev pub refusal_of : Checked → Option Refusal
+refusal_of Passed = none
+refusal_of (Bad n p) = some (row n p)
 
 -- A legal word of kind 1 whose operator is its low byte: no host's number.
 pub record LowOperator (w : ℕ) : Type 0 where

@@ -37,8 +37,8 @@ with_last r a b c =
     }
 
 -- The eight words of a record.
-unfoldable pub eight_words : Record → List ℕ
-eight_words r = record8 r.number r.start r.end r.first r.second r.third r.fourth r.fifth
+unfoldable pub words_of : Record → List ℕ
+words_of r = record8 r.number r.start r.end r.first r.second r.third r.fourth r.fifth
 
 -- The words ws in a buffer from `at` on, what stands before and after them as it was.
 unfoldable pub laid_at : ℕ → List ℕ → List ℕ → List ℕ

@@ -27,5 +27,5 @@ abbrev pub node_length : ℕ
 node_length = 7
 
 -- The words of a node: those of its token, how many children it has, and the word of where it closes.
-abbrev pub seven_words : TokenWords → ℕ → ℕ → List ℕ
-seven_words k children close = five_words k ++ (word 6 (children % 2 ^ 14) ∷ close ∷ [])
+abbrev pub node_words : TokenWords → ℕ → ℕ → List ℕ
+node_words k children close = five_words k ++ (word 6 (children % 2 ^ 14) ∷ close ∷ [])

@@ -5,7 +5,7 @@ ghost use Rattle.std.proofs.Math.Option.{none};
 ghost use Rattle.molang.specs.Words.{kind_of, low_of, operator_field, start_field, upper_field, low_fault, word_fault, with_place, words_refusal};
 ghost use Rattle.molang.specs.FirstFailure.{must, first_of};
 ghost use Rattle.words.specs.Tokens.{five_words};
-ghost use Rattle.words.specs.Checks.{number_of, token_refusal, LowOperator, HalfWords};
+ghost use Rattle.words.specs.Checks.{number_of, refusal_of, LowOperator, HalfWords};
 
 use crate::tokens::TokenWords;
 use crate::{fields, refusals};
@@ -105,7 +105,7 @@ pub fn half_word(w: u32, kind: u32, variant: u32) -> Word
 
 // The answer's number for a bad word, and its place.
 pub fn judged(word: Word, place: usize) -> Checked
-    ensures { token_refusal result ≡ with_place place (number_of word) }
+    ensures { refusal_of result ≡ with_place place (number_of word) }
 {
     match word {
         Word::Good => Checked::Good,
@@ -184,7 +184,7 @@ fn is_usual(words: TokenWords) -> bool
 // The first bad one of the five words of a token, word by word. `token` asks the same.
 fn first_bad(words: TokenWords, at: usize) -> Checked
     requires { at + 4 < 2 ^ 64 }
-    ensures { token_refusal result ≡ words_refusal at operator_field 0 (five_words words) }
+    ensures { refusal_of result ≡ words_refusal at operator_field 0 (five_words words) }
 {
     let one = operator_word(words.operator);
     let Word::Good = one else {
@@ -211,7 +211,7 @@ fn first_bad(words: TokenWords, at: usize) -> Checked
 // their places are numbers of words.
 pub fn token(words: TokenWords, at: usize) -> Checked
     requires { at + 4 < 2 ^ 64 }
-    ensures { token_refusal result ≡ words_refusal at operator_field 0 (five_words words) }
+    ensures { refusal_of result ≡ words_refusal at operator_field 0 (five_words words) }
 {
     if is_bare(words) {
         return Checked::Good;

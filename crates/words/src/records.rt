@@ -1,7 +1,7 @@
 // Message records: eight words, number, start, end and five arguments; and the numbers of the messages.
 // Leans on nothing; specs/Records says which words a record is.
 ghost use Rattle.std.specs.Prelude.{◌≡◌, ◌+◌, ◌≤◌, length};
-ghost use Rattle.words.specs.Records.{unnamed, with_first, with_last, eight_words, laid_at};
+ghost use Rattle.words.specs.Records.{unnamed, with_first, with_last, words_of, laid_at};
 
 pub const MULTIPLE_ROOTS: u32 = 1;
 
@@ -90,7 +90,7 @@ impl Record {
 // Writes a record to the eight words from `at` on. The entry has seen that the buffer holds two records.
 pub fn put(messages: &mut [u32], at: usize, r: Record)
     requires { at + 8 ≤ length messages.old }
-    ensures { messages.new ≡ laid_at at (eight_words r) messages.old }
+    ensures { messages.new ≡ laid_at at (words_of r) messages.old }
 {
     messages[at] = r.number;
     messages[at + 1] = r.start;

@@ -2,7 +2,7 @@
 // tokens or nodes, and have room for what they lay. Leans on the fields; specs/Tokens says which words they are.
 ghost use Rattle.std.specs.Prelude.{◌≡◌, ◌+◌, ◌≤◌, length};
 ghost use Rattle.words.specs.Records.{laid_at};
-ghost use Rattle.words.specs.Tokens.{token_words_at, bare_words, five_words, node_length, seven_words};
+ghost use Rattle.words.specs.Tokens.{token_words_at, bare_words, five_words, node_length, node_words};
 
 use crate::fields;
 
@@ -59,7 +59,7 @@ impl TokenWords {
     // Writes the words of a node of this token to the buffer from `at` on: so many children, and the word of where it closes.
     pub fn lay_node(self, words: &mut [u32], at: usize, children: u32, close: u32)
         requires { at + node_length ≤ length words.old }
-        ensures { words.new ≡ laid_at at (seven_words self children close) words.old }
+        ensures { words.new ≡ laid_at at (node_words self children close) words.old }
     {
         self.lay(words, at);
         words[at + fields::COUNT_FIELD] = fields::children_word(children);

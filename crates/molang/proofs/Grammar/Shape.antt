@@ -139,83 +139,6 @@ pointed = record { members = true; sections = true; calls = true; statements = t
 abbrev pub counted : Stage
 counted = record { members = true; sections = true; calls = true; statements = true; arrays = true; pointers = true; maths = true }
 
--- What a shape is to those beside it: whether it has no semicolon of its own; is statements with their semicolons, and semicolons after
--- none; is these, or with a last statement that has no semicolon; begins with a statement; with one that has its semicolon; is a whole
--- list, of the text or of a section; begins with a section; and whether no semicolon stands in it.
-pub record Face : Type 0 where
-  pub item : Bool
-  pub ended : Bool
-  pub lined : Bool
-  pub starts : Bool
-  pub marked : Bool
-  pub whole : Bool
-  pub opening : Bool
-  pub single : Bool
-
--- An expression, or a part of one.
-abbrev piece : Bool → Bool → Bool → Face
-piece i o e = record { item = i; ended = false; lined = false; starts = true; marked = false; whole = i; opening = o; single = e }
-
--- What has semicolons.
-abbrev statements : Bool → Bool → Bool → Bool → Bool → Bool → Face
-statements e l s m w o = record { item = false; ended = e; lined = l; starts = s; marked = m; whole = w; opening = o; single = false }
-
-unfoldable pub face : Shape → Face
-face (token k) = piece true false true
-face (beside x y) = record {
-  item = (face x).item && (face y).item;
-  ended = (face x).ended && (face y).ended;
-  lined = (face x).ended && (face y).lined;
-  starts = (face x).starts;
-  marked = (face x).marked;
-  whole = (face x).item && (face y).item;
-  opening = (face x).opening;
-  single = (face x).single && (face y).single;
-}
-face (chain b ms) = piece true false true
-face (section o c x) = piece true true (face x).single
-face (query k o c x) = piece true false (face x).single
-face (math_call k o c x) = piece true false (face x).single
-face (math_empty k o c) = piece true false true
-face (index k o c x) = piece true false (face x).single
-face (pointer k x y) = piece ((face x).item && (face y).item) (face x).opening ((face x).single && (face y).single)
-face (script q x) = statements false false true false ((face x).lined && ((face x).starts && (face x).marked)) (face x).opening
-face (statement e x) = statements (face x).item (face x).item true true false (face x).opening
-face (last x) = statements false (face x).item true false false (face x).opening
-face (blank e) = statements true true false true false false
-
-unfoldable pub is_item : Shape → Bool
-unfolding face
-is_item x = (face x).item
-
-unfoldable pub are_ended : Shape → Bool
-unfolding face
-are_ended x = (face x).ended
-
-unfoldable pub are_lines : Shape → Bool
-unfolding face
-are_lines x = (face x).lined
-
-unfoldable pub starts_statement : Shape → Bool
-unfolding face
-starts_statement x = (face x).starts
-
-unfoldable pub has_semicolon : Shape → Bool
-unfolding face
-has_semicolon x = (face x).marked
-
-unfoldable pub is_list : Shape → Bool
-unfolding face
-is_list x = (face x).whole
-
-unfoldable pub opens : Shape → Bool
-unfolding face
-opens x = (face x).opening
-
-unfoldable pub is_one_expression : Shape → Bool
-unfolding face
-is_one_expression x = (face x).single
-
 -- A bare call or loop stands last in the list, so that a round bracket after it would be its own.
 unfoldable pub ends_bare : Shape → Bool
 ends_bare (token k) = is_query_or_loop k.op
@@ -232,6 +155,38 @@ ends_bare (script q x) = ends_bare x
 ends_bare (statement e x) = false
 ends_bare (last x) = ends_bare x
 ends_bare (blank e) = false
+
+-- A section stands first in the list.
+unfoldable pub opens : Shape → Bool
+opens (token k) = false
+opens (beside x y) = opens x
+opens (chain b ms) = false
+opens (section o c x) = true
+opens (query k o c x) = false
+opens (math_call k o c x) = false
+opens (math_empty k o c) = false
+opens (index k o c x) = false
+opens (pointer k x y) = opens x
+opens (script q x) = opens x
+opens (statement e x) = opens x
+opens (last x) = opens x
+opens (blank e) = false
+
+-- No semicolon stands in it.
+unfoldable pub is_one_expression : Shape → Bool
+is_one_expression (token k) = true
+is_one_expression (beside x y) = is_one_expression x && is_one_expression y
+is_one_expression (chain b ms) = true
+is_one_expression (section o c x) = is_one_expression x
+is_one_expression (query k o c x) = is_one_expression x
+is_one_expression (math_call k o c x) = is_one_expression x
+is_one_expression (math_empty k o c) = true
+is_one_expression (index k o c x) = is_one_expression x
+is_one_expression (pointer k x y) = is_one_expression x && is_one_expression y
+is_one_expression (script q x) = false
+is_one_expression (statement e x) = false
+is_one_expression (last x) = false
+is_one_expression (blank e) = false
 
 -- A token that no pass here takes but as a bare call, a bare array name or an operator of a later pass.
 abbrev pub Plain : Token → Type 0
@@ -270,6 +225,70 @@ Shaped (statement e x) = (e.op ≡ Operator.semicolon) × Shaped x
 Shaped (last x) = Shaped x
 Shaped (blank e) = (e.op ≡ Operator.semicolon)
 
+-- The list has no semicolon of its own: an expression, or a part of one.
+unfoldable pub is_item : Shape → Bool
+is_item (token k) = true
+is_item (beside x y) = is_item x && is_item y
+is_item (chain b ms) = true
+is_item (section o c x) = true
+is_item (query k o c x) = true
+is_item (math_call k o c x) = true
+is_item (math_empty k o c) = true
+is_item (index k o c x) = true
+is_item (pointer k x y) = is_item x && is_item y
+is_item (script q x) = false
+is_item (statement e x) = false
+is_item (last x) = false
+is_item (blank e) = false
+
+-- Statements with their semicolons, and semicolons after none.
+unfoldable pub are_ended : Shape → Bool
+are_ended (token k) = false
+are_ended (beside x y) = are_ended x && are_ended y
+are_ended (chain b ms) = false
+are_ended (section o c x) = false
+are_ended (query k o c x) = false
+are_ended (math_call k o c x) = false
+are_ended (math_empty k o c) = false
+are_ended (index k o c x) = false
+are_ended (pointer k x y) = false
+are_ended (script q x) = false
+are_ended (statement e x) = is_item x
+are_ended (last x) = false
+are_ended (blank e) = true
+
+-- The same, or with a last statement that has no semicolon.
+unfoldable pub are_lines : Shape → Bool
+are_lines (token k) = false
+are_lines (beside x y) = are_ended x && are_lines y
+are_lines (chain b ms) = false
+are_lines (section o c x) = false
+are_lines (query k o c x) = false
+are_lines (math_call k o c x) = false
+are_lines (math_empty k o c) = false
+are_lines (index k o c x) = false
+are_lines (pointer k x y) = false
+are_lines (script q x) = false
+are_lines (statement e x) = is_item x
+are_lines (last x) = is_item x
+are_lines (blank e) = true
+
+-- A statement stands first.
+unfoldable pub starts_statement : Shape → Bool
+starts_statement (token k) = true
+starts_statement (beside x y) = starts_statement x
+starts_statement (chain b ms) = true
+starts_statement (section o c x) = true
+starts_statement (query k o c x) = true
+starts_statement (math_call k o c x) = true
+starts_statement (math_empty k o c) = true
+starts_statement (index k o c x) = true
+starts_statement (pointer k x y) = true
+starts_statement (script q x) = true
+starts_statement (statement e x) = true
+starts_statement (last x) = true
+starts_statement (blank e) = false
+
 -- The first semicolon of statements; of anything else it does not matter.
 unfoldable pub semicolon_of : Shape → Token
 semicolon_of (token k) = k
@@ -285,6 +304,38 @@ semicolon_of (script q x) = q
 semicolon_of (statement e x) = e
 semicolon_of (last x) = semicolon_of x
 semicolon_of (blank e) = e
+
+-- The first statement has one.
+unfoldable pub has_semicolon : Shape → Bool
+has_semicolon (token k) = false
+has_semicolon (beside x y) = has_semicolon x
+has_semicolon (chain b ms) = false
+has_semicolon (section o c x) = false
+has_semicolon (query k o c x) = false
+has_semicolon (math_call k o c x) = false
+has_semicolon (math_empty k o c) = false
+has_semicolon (index k o c x) = false
+has_semicolon (pointer k x y) = false
+has_semicolon (script q x) = false
+has_semicolon (statement e x) = true
+has_semicolon (last x) = false
+has_semicolon (blank e) = true
+
+-- A whole list, of the text or of a section.
+unfoldable pub is_list : Shape → Bool
+is_list (token k) = true
+is_list (beside x y) = is_item x && is_item y
+is_list (chain b ms) = true
+is_list (section o c x) = true
+is_list (query k o c x) = true
+is_list (math_call k o c x) = true
+is_list (math_empty k o c) = true
+is_list (index k o c x) = true
+is_list (pointer k x y) = is_item x && is_item y
+is_list (script q x) = are_lines x && (starts_statement x && has_semicolon x)
+is_list (statement e x) = false
+is_list (last x) = false
+is_list (blank e) = false
 
 -- What the statement pass asks besides: every list is one, and what the pass does not enter has no semicolons.
 abbrev pub Stated : Shape → Type 0

@@ -46,7 +46,7 @@ still_open-named-requires c =
 pub returns-then-closer_of-operator_of : goal.returns-then-closer_of-operator_of
 returns-then-closer_of-operator_of c =
     record {
-      section_closed = record {
+      closed = record {
         answer = λ g.
             close-differs g.standing c.requires.1 g.tree c.opener_at-innermost.result _ _ c.args.at.index
             c.still_open-named.result c.opener_at-innermost.ensures (looked-for c.before.before.before.before) c.operator_of-2.ensures
@@ -76,7 +76,7 @@ returns c =
     let set = c.set_close in
     let o = found c.before.before.before.before.before.before.before.before.before.before in
     record {
-      section_closed = close-closed c.requires.1 o.opener_at-innermost.result _ _ c.args.at.index c.give_children.new.work set.new.work
+      closed = close-closed c.requires.1 o.opener_at-innermost.result _ _ c.args.at.index c.give_children.new.work set.new.work
           o.opener_at-innermost.ensures (looked-for c.before.before.before.before.before.before.before.before.before.before.before.before) c.operator_of-2.ensures c.if-closer_of-operator_of.false
           c.give_children.ensures set.ensures (opener-in c.before.before.before.before.before.before.before);
       result_value = refl;

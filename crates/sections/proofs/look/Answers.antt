@@ -80,7 +80,7 @@ returns-then-depth-ne0 c =
     let h : is_opener o ≡ false = opening c.before.before.before.before.before.before.before.before.before ∙ c.if-is_opener.false in
     let closes : is_closer o ≡ true = closing c.before.before.before.before.before.before.before ∙ c.if-is_closer.true in
     let r = c.close_section in
-    let w = r.ensures.section_closed in
+    let w = r.ensures.closed in
     let fewer = closer-open c.args.at.depth o h closes in
     record {
       looked = record {

@@ -3,7 +3,7 @@ use mathlib.Core.Path.{◌≡◌, refl, sym, ◌∙◌}
 use native.Mathlib.Omega.{arith}
 use mir.{Syntax.{w16}, Facts.{to_z-of_z}}
 use Rattle.molang.specs.Lines.{version_of}
-use Rattle.verdicts.specs.Verdicts.{difference_of, read_verdict, fresh_call, at_versions}
+use Rattle.verdicts.specs.Verdicts.{verdict_of, read_verdict, list_call, at_versions}
 use Rattle.verdicts.proofs.{VerdictLaws.{found-same, found-other, none_left}}
 use Rattle.verdicts.proofs.read_at.Goals as goal
 use Rattle.verdicts.proofs.read_at.Lts as lts
@@ -17,8 +17,8 @@ start c = c.before.before.before.before.before.before.before.before.before
 
 -- A turn reads at the version of its bits.
 turned : (c : (lts.After-read tie.the-claims reads.Pre reads.Post goal.the-invariant-loop-bits goal.the-decreases-loop-bits))
-    → difference_of c.read-verdict.result ≡ read_verdict
-    (fresh_call (start c).args.list.now (version_of c.loop-bits.bits)
+    → verdict_of c.read-verdict.result ≡ read_verdict
+    (list_call (start c).args.list.now (version_of c.loop-bits.bits)
     c.limit_of-limit.result)
     (start c).args.said.now
 turned c =

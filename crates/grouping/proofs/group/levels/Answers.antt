@@ -2,7 +2,7 @@
 use mathlib.Core.Path.{refl, ◌∙◌}
 use native.Mathlib.Omega.{arith}
 use mir.{Facts.{to_z-of_z}, Syntax.{w16}, Val.{to_z, of_z}}
-use Rattle.order.specs.Ranks.{used_by, rules_at}
+use Rattle.order.specs.Ranks.{used_by, rules_of}
 use Rattle.grouping.proofs.LevelLaws.{level-start, level-chooses, chosen-as, levelled-at, level-on, level-pointer}
 use Rattle.grouping.proofs.{LevelLaws.{level-fails, level-roots}}
 use Rattle.grouping.proofs.group.levels.Goals as goal
@@ -11,7 +11,7 @@ pub loop-k-init : goal.loop-k-init
 loop-k-init c =
     let a = c.args in (
       c.requires,
-      λ g l. level-start (used_by a.used) (rules_at (to_z w16 (of_z w16 a.version))) g l,
+      λ g l. level-start (used_by a.used) (rules_of (to_z w16 (of_z w16 a.version))) g l,
       omega arith,
       refl,
       c.ranks-table.ensures,

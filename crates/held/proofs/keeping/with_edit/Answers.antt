@@ -5,11 +5,11 @@ use mathlib.Core.Path.{◌≡◌}
 use mir.{Syntax.{w16}, Val.{of_z, to_z}}
 use borrow.Author.Rules.{rules}
 use lib.ListN.{length}
-use Rattle.held.specs.Editing.{numbers_after}
+use Rattle.held.specs.Editing.{counted}
 use Rattle.held.proofs.keeping.with_edit.Goals as goal
 
 pub returns : goal.returns
-unfolding numbers_after
+unfolding counted
 returns c =
     let a = c.args in
     let same : to_z w16 (of_z w16 a.held.version) ≡ a.held.version = search rules in

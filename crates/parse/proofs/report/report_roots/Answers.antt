@@ -3,7 +3,7 @@
 use Prim.Native.Nat.{ℕ}
 use mathlib.Core.{Path.{refl, ap, ◌∙◌}, List.{List}}
 use native.Mathlib.Omega.{arith}
-use Rattle.words.specs.Records.{eight_words, laid_at}
+use Rattle.words.specs.Records.{words_of, laid_at}
 use Rattle.parse.proofs.{RecordLaws.{with_first_lem}, RootLaws.{roots-follow, roots-some, last-measure, roots-reported}}
 use Rattle.parse.proofs.report.report_roots.Goals as goal
 
@@ -23,7 +23,7 @@ returns c =
     let a = c.args in
     let tail = c.last_of_chain-tail in
     let last = c.extent_of-ends in
-    let words = ap eight_words (with_first_lem c.naming.ensures c.new.ensures refl refl) in
+    let words = ap words_of (with_first_lem c.naming.ensures c.new.ensures refl refl) in
     roots-reported a.work.now c.extent_of-starts.new.work a.head a.n c.extent_of-starts.result c.extent_of-starts.ensures
     a.messages.now c.put.new.messages last.new.work tail.result c.count_chain-roots.result last.result c.requires
     c.count_chain-roots.ensures tail.ensures last.ensures

@@ -2,7 +2,7 @@
 use native.Mathlib.{Numerals.{towards_suc}, Omega.{arith}}
 use lib.ListN.{length-set}
 use Rattle.molang.specs.Message.{record8}
-use Rattle.words.specs.Records.{eight_words}
+use Rattle.words.specs.Records.{words_of}
 use Rattle.words.proofs.{RecordLaws.{laid-sets}}
 use Rattle.words.proofs.records.put.Goals as goal
 
@@ -36,4 +36,4 @@ bounds-messages-at-8 c =
 
 pub returns : goal.returns
 returns c =
-    unfold eight_words record8 in simp towards_suc (laid-sets (eight_words c.args.r) c.args.messages.now c.args.at c.requires)
+    unfold words_of record8 in simp towards_suc (laid-sets (words_of c.args.r) c.args.messages.now c.args.at c.requires)
