@@ -10,12 +10,21 @@ use std::io::Write;
 use std::os::fd::OwnedFd;
 use std::os::unix::net::UnixStream;
 use std::process::Stdio;
+use std::sync::{Mutex, MutexGuard, PoisonError};
 
 fn said(printed: &str, complained: &str) -> Said {
     Said {
         printed: printed.to_string(),
         complained: complained.to_string(),
     }
+}
+
+static ONE: Mutex<()> = Mutex::new(());
+
+/// One test at a time. A program that another test starts has, until it runs, a copy of the end that feeds this one's stream, and a stream
+/// does not end as long as somebody has that.
+fn alone() -> MutexGuard<'static, ()> {
+    ONE.lock().unwrap_or_else(PoisonError::into_inner)
 }
 
 /// A stream that does not block, with these bytes in it, and the end that feeds it. A read behind them fails as long as that end is open.
@@ -28,6 +37,7 @@ fn stream(part: &[u8]) -> (OwnedFd, UnixStream) {
 
 /// Of an input that is read in part, or not at all, nothing is printed; of the same part as a whole input what is printed of it.
 fn a_failed_read_is_no_end(name: &str, line: &str, input: &[u8], cuts: &[usize]) {
+    let _alone = alone();
     let program = Program::named(name);
     let whole = said(&program.run(input), "");
     for &cut in cuts {
@@ -51,6 +61,7 @@ fn a_failed_read_is_no_end(name: &str, line: &str, input: &[u8], cuts: &[usize])
 
 /// A device on which every write fails.
 fn a_failed_write_is_told(name: &str, what: &str, input: &[u8]) {
+    let _alone = alone();
     let full = File::options().write(true).open("/dev/full");
     let full = full.expect("a device that is always full");
     let (all, feed) = stream(input);
@@ -107,6 +118,7 @@ fn sums_to_lift(count: usize) -> Vec<u8> {
 #[test]
 #[cfg_attr(not(liftlists), ignore = "liftlists is not built")]
 fn liftlists_tells_a_failed_read() {
+    let _alone = alone();
     let program = Program::named("liftlists");
     let line = "liftlists: a read failed, and the file is not whole\n";
     let input = sums_to_lift(1_000);
@@ -158,6 +170,7 @@ fn lines_tells_a_failed_write() {
 #[test]
 #[cfg_attr(not(everylist), ignore = "everylist is not built")]
 fn a_faulty_word_in_the_last_chunk() {
+    let _alone = alone();
     let program = Program::named("everylist");
     let mut words: Vec<u32> = [6, 0].into_iter().chain(10..19).collect();
     words.resize(11 + 16_384, 61);
