@@ -27,7 +27,7 @@ help:
 	@echo 'make compare    compares the library and the programs with the Rust parser (LISTS=5000000 SEED=1)'
 	@echo 'make bench      times reading, writing, stack order, lifting and the programs' \
 	    '(SORBRUDDER_BEFORE=folder of an archive to time beside)'
-	@echo 'make edits      tries the must-fail edits that the gate leaves out, hours'
+	@echo 'make edits      tries the must-fail edits that the gate leaves out, some 45 minutes on four processors'
 	@echo 'make believed   writes docs/BELIEVED.md, what must be believed, with its lines'
 	@echo 'make prebuilt   fills prebuilt/ with the library and the programs as they are proved here'
 

@@ -4,7 +4,7 @@ import sys, shutil, subprocess, os, re, time, glob, threading
 tree, crate, edit, program, out = sys.argv[1:6]
 work = f'$WT/prtry/mut-{os.path.basename(out)}'
 shutil.rmtree(work, ignore_errors=True)
-os.makedirs(work + '/tmp')
+os.makedirs(work + '/scratch')
 shutil.copytree(tree + '/crates', work + '/crates')
 shutil.copy(tree + '/crates.txt', work)
 if edit != '-':
@@ -22,10 +22,10 @@ os.makedirs(keep)
 stop = False
 def watch():
     while not stop:
-        subprocess.run(['cp', '-rln', work + '/tmp/.', keep], stderr=subprocess.DEVNULL)
+        subprocess.run(['cp', '-rln', work + '/scratch/.', keep], stderr=subprocess.DEVNULL)
         time.sleep(0.03)
 t = threading.Thread(target=watch); t.start()
-r = subprocess.run(['rt', 'try', program], cwd=work, env=dict(os.environ, TMPDIR=work + '/tmp'), capture_output=True, text=True)
+r = subprocess.run(['rt', 'try', program], cwd=work, env=dict(os.environ, TMPDIR=work + '/scratch'), capture_output=True, text=True)
 stop = True; t.join()
 objects = sorted(glob.glob(keep + '/*-2/module*.o*'))
 if not objects:
