@@ -271,6 +271,26 @@ fn a_file_with_two_names_is_turned_back() {
     assert_eq!(lifted.nlink(), 1);
 }
 
+/// A run that takes up several names of one file at once does not take itself for another run.
+#[test]
+fn names_of_one_file_taken_up_at_once_are_each_turned_back() {
+    let folder = folder("at-once");
+    std::fs::create_dir(folder.join("in")).expect("a folder");
+    let names: Vec<String> = (0..16).map(|name| format!("in/{name}")).collect();
+    std::fs::write(folder.join(&names[0]), alike(3)).expect("a file");
+    for name in &names[1..] {
+        std::fs::hard_link(folder.join(&names[0]), folder.join(name)).expect("another name");
+    }
+    for _ in 0..20 {
+        let ran = run_line(&folder, "lift in --in-place -j 8 --to 6");
+        assert_eq!(ran.status, Some(3), "{ran:?}");
+        for name in &names {
+            let told = format!("{name}: it has 16 names (hard links)");
+            assert!(ran.err.contains(&told), "{ran:?}");
+        }
+    }
+}
+
 #[test]
 fn a_link_is_told_of_by_its_own_name() {
     let folder = folder("link_names");

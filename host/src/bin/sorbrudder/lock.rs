@@ -2,6 +2,7 @@
 
 use crate::escape;
 use crate::failure::Failure;
+use crate::replace::one_name;
 use crate::system;
 use std::fs::{File, Metadata, OpenOptions};
 use std::os::unix::fs::MetadataExt as _;
@@ -28,6 +29,9 @@ impl Held {
                 ))
             })?;
             if !locked {
+                // It may be this run that holds it, under another of the file's names.
+                let target = path.canonicalize().map_err(failed)?;
+                one_name(path, &target, &file.metadata().map_err(failed)?)?;
                 let why = "another run is lifting it; nothing was written";
                 return Err(Failure::Io(format!("{}: {why}", escape::path(path))));
             }

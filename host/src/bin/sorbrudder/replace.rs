@@ -205,7 +205,7 @@ fn refused(named: &Path, why: &str) -> Failure {
 
 /// A new file takes the place of one name: of a file that has two, the other would lead to the old one. A backup that a run has left before
 /// it was ended is such a name, and meant to be.
-fn one_name(named: &Path, target: &Path, there: &Metadata) -> Result<(), Failure> {
+pub fn one_name(named: &Path, target: &Path, there: &Metadata) -> Result<(), Failure> {
     let backup = std::fs::symlink_metadata(backup_of(target));
     let is_kept = backup.is_ok_and(|backup| is_one_file(&backup, there));
     match there.nlink() - u64::from(is_kept) {
