@@ -5,6 +5,8 @@ mod common;
 use common::command::{Run, SEVEN, archive, command, folder, lists, run, run_line, run_with};
 use sorbrudder::archive::Format;
 use std::ffi::{CString, c_char, c_int, c_void};
+use std::fs::File;
+use std::os::fd::AsRawFd as _;
 use std::os::unix::ffi::OsStrExt as _;
 use std::os::unix::fs::{MetadataExt as _, PermissionsExt, chown, symlink};
 use std::os::unix::process::CommandExt as _;
@@ -195,6 +197,7 @@ unsafe extern "C" {
     ) -> c_int;
     fn getxattr(path: *const c_char, name: *const c_char, value: *mut c_void, size: usize)
     -> isize;
+    fn flock(file: c_int, lock: c_int) -> c_int;
 }
 
 fn path_of(file: &Path) -> CString {
@@ -275,9 +278,10 @@ fn a_file_with_two_names_is_turned_back() {
 #[test]
 fn names_of_one_file_taken_up_at_once_are_each_turned_back() {
     let folder = folder("at-once");
+    let old = alike(3);
     std::fs::create_dir(folder.join("in")).expect("a folder");
     let names: Vec<String> = (0..16).map(|name| format!("in/{name}")).collect();
-    std::fs::write(folder.join(&names[0]), alike(3)).expect("a file");
+    std::fs::write(folder.join(&names[0]), &old).expect("a file");
     for name in &names[1..] {
         std::fs::hard_link(folder.join(&names[0]), folder.join(name)).expect("another name");
     }
@@ -289,6 +293,24 @@ fn names_of_one_file_taken_up_at_once_are_each_turned_back() {
             assert!(ran.err.contains(&told), "{ran:?}");
         }
     }
+    assert!(std::fs::read(folder.join(&names[0])).expect("a file") == old);
+}
+
+/// The names of a file that another run holds are not counted: one may be a backup that the other run is making.
+#[test]
+fn a_file_that_another_run_holds_is_told_of_as_held() {
+    let folder = folder("held");
+    let (file, old) = (folder.join("file"), alike(3));
+    std::fs::write(&file, &old).expect("a file");
+    std::fs::hard_link(&file, folder.join("other")).expect("another name");
+    let held = File::open(&file).expect("a file");
+    // SAFETY: the file is open, and 2 | 4 asks for its one lock at once.
+    assert_eq!(unsafe { flock(held.as_raw_fd(), 2 | 4) }, 0);
+    let ran = run(&folder, &LIFT);
+    assert_eq!(ran.status, Some(3), "{ran:?}");
+    let told = "file: another run is lifting it; nothing was written";
+    assert!(ran.err.contains(told), "{ran:?}");
+    assert!(std::fs::read(&file).expect("a file") == old);
 }
 
 #[test]

@@ -4,9 +4,14 @@ use crate::escape;
 use crate::failure::Failure;
 use crate::replace::one_name;
 use crate::system;
+use std::collections::HashSet;
 use std::fs::{File, Metadata, OpenOptions};
 use std::os::unix::fs::MetadataExt as _;
 use std::path::Path;
+use std::sync::{LazyLock, Mutex, PoisonError};
+
+/// The files that this run has locked, under whatever name, so that it does not take itself for another run.
+static LOCKED: LazyLock<Mutex<HashSet<(u64, u64)>>> = LazyLock::new(Mutex::default);
 
 /// A file that no other run lifts in place as long as this is there.
 pub struct Held {
@@ -21,6 +26,8 @@ impl Held {
         let failed = |why| Failure::io(path, &why);
         loop {
             let file = open(path).map_err(failed)?;
+            // From the lock to its entry no other thread of this run looks for it.
+            let mut ours = LOCKED.lock().unwrap_or_else(PoisonError::into_inner);
             let locked = system::try_lock(&file);
             let locked = locked.map_err(|why| {
                 Failure::Io(format!(
@@ -28,14 +35,17 @@ impl Held {
                     escape::path(path)
                 ))
             })?;
+            let held = file.metadata().map_err(failed)?;
+            let place = (held.dev(), held.ino());
             if !locked {
-                // It may be this run that holds it, under another of the file's names.
-                let target = path.canonicalize().map_err(failed)?;
-                one_name(path, &target, &file.metadata().map_err(failed)?)?;
+                if ours.contains(&place) {
+                    one_name(path, &path.canonicalize().map_err(failed)?, &held)?;
+                }
                 let why = "another run is lifting it; nothing was written";
                 return Err(Failure::Io(format!("{}: {why}", escape::path(path))));
             }
-            let held = file.metadata().map_err(failed)?;
+            ours.insert(place);
+            drop(ours);
             if is_one_file(&held, &path.metadata().map_err(failed)?) {
                 let seen = Seen::of(&held);
                 return Ok(Self { file, seen });
