@@ -147,8 +147,9 @@ impl Replacement {
             // Not every file system can exchange two names.
             return self.rename();
         }
+        // A program that had opened the file before the exchange may write to it still: the look comes after the wait for the disk.
+        self.sync_folder();
         if seen.is_at(&self.beside) {
-            self.sync_folder();
             return Ok(());
         }
         // Between the look and the exchange another program was faster: its file goes back to its name.
