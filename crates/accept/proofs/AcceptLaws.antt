@@ -5,22 +5,21 @@ use Prim.Native.Nat.{ℕ, ◌+◌, ◌*◌, ◌/◌, ◌%◌, ◌^◌, ◌≤◌
 use native.Mathlib.{Numerals.{add-one}, Omega.{arith}}
 use lib.{Dec.{eqb, leb, ltb}, ListN.{length, drop, get_or, length-replicate}, Seq.{drop-cons, drop-length}}
 use borrow.Author.Tests.{eqb-true, leb-true, le-leb, lt-leb}
-use types.Run.{OneOf}
-use denote.Enum.Declared.{tag_of}
+use Rattle.std.specs.Prelude.{Err}
 use Rattle.molang.specs.FirstFailure.{must, first_of}
 use Rattle.molang.specs.Operator.{left_brace, left_bracket, left_parenthesis, right_brace, right_bracket, right_parenthesis, is_closer}
 use Rattle.molang.specs.Words.{operator_bits, Refusal, row, operator_field, word_fault, low_fault, variant_after, words_refusal, token_of}
 use Rattle.molang.specs.{Words.{tokens_of}, Nesting.{open_after, first_above, too_deep}}
 use Rattle.molang.specs.Parse.{Call, most_tokens, is_limit, length_rows, value_rows, refusal}
-use Rattle.molang.proofs.FirstFailure.{must-true, must-false, found, passed, last_one, after_none, in_parts, behind}
+use Rattle.molang.proofs.FirstFailure.{must-true, must-false, found, passed, after_none, in_parts, behind}
 use Rattle.molang.proofs.{ListWords.{tokens-count}, Accepted.{call-accepted}, Nesting.{opens_one, short-within}}
 use Rattle.ops.{specs.declared.sets.OpSet.{OpSet}, proofs.OperatorLaws.{Apart, apart, no-closer}}
 use Rattle.words.specs.Fields.{operator_of, variant_of}
 use Rattle.words.proofs.{FieldLaws.{same-by-bits}, CheckLaws.{good-token, token-refused, token-passed}}
-use Rattle.accept.specs.{declared.Sizes.{Sizes}, declared.Accepted.{Accepted}, declared.Accepted.TheVariants.{Tokens, Refused}}
+use Rattle.words.specs.declared.refusals.Refusal as code
+use Rattle.accept.specs.declared.Sizes.{Sizes}
 use Rattle.accept.specs.Accepting.{Verdict, is_read, is_refused, verdict_of, verdict, call_of, length_refusal, value_refusal}
 use Rattle.accept.specs.Accepting.{nesting_refusal}
-use Rattle.accept.specs.contracts.Accepted.{the_type}
 
 -- What the checks are given of a call.
 abbrev pub sizes_of : Call → Sizes
@@ -87,67 +86,22 @@ refused_as number place n (some r) e =
     λ i. some (row (same_number i) (same_place i))
 
 -- A refusal by the first row is the whole table's.
-pub refused-first : (x : Accepted) (n : ℕ) (o : Option Refusal) (later : List (Option Refusal)) → OneOf (1 ∷ []) (tag_of the_type x)
-    → verdict_of x ≡ verdict n o → verdict_of x ≡ verdict n (first_of (o ∷ later))
+pub refused-first : (x : code.Refusal) (n : ℕ) (o : Option Refusal) (later : List (Option Refusal))
+    → verdict_of (Err x) ≡ verdict n o → verdict_of (Err x) ≡ verdict n (first_of (o ∷ later))
 unfolding first_of
-refused-first (Tokens m) n o later h e = absurd (omega arith)
-refused-first (Refused number place) n none later h e = absurd (let z : ◌≡◌ {A = ℕ} 0 1 = cc in omega arith)
-refused-first (Refused number place) n (some r) later h e = e
+refused-first x n none later e = absurd (let z : ◌≡◌ {A = ℕ} 0 1 = cc in omega arith)
+refused-first x n (some r) later e = e
 
--- A first row that refuses nothing leaves the answer to the later ones.
-passed_first : (m n : ℕ) (o : Option Refusal) (later : List (Option Refusal)) → is_read m ≡ verdict n o
-    → verdict n (first_of later) ≡ verdict n (first_of (o ∷ later))
-passed_first m n o later e = unfold first_of in rw (accepted m n o e).1
-
--- The call that the checks of a list, its sizes, its used set and its limit answer.
-module _ (list : List ℕ) (sizes : Sizes) (used : OpSet) (limit : ℕ) where
-  abbrev pub Answers : Accepted → Type 0
-  Answers x = verdict_of x ≡ verdict (length list / 5) (refusal (call_of list sizes used limit))
-
-  pub by_length : (x : Accepted) → OneOf (1 ∷ []) (tag_of the_type x) → verdict_of x ≡ verdict (length list / 5) (length_refusal list sizes)
-      → Answers x
-  by_length x h e =
-      refused-first x (length list / 5) (length_refusal list sizes) _ h e
-      ∙ ap (verdict (length list / 5)) (sym (table list sizes used limit))
-
-  -- The lengths refuse nothing.
-  module _ (n : ℕ) (whole : is_read n ≡ verdict (length list / 5) (length_refusal list sizes)) where
-    pub whole-tokens : (length list ≡ 5 * n) × (n ≤ 4096)
-    unfolding length_rows
-    whole-tokens =
-        let told = accepted n (length list / 5) (length_refusal list sizes) whole in
-        let one = passed (eqb (length list % 5) 0) (row 1 0) _ told.1 in
-        let two = passed (leb (length list / 5) most_tokens) (row 2 0) _ one.1 in
-        let count = told.0 in
-        (omega (arith, eqb-true (length list % 5) 0 one.0), omega (arith, leb-true (length list / 5) most_tokens two.0))
-
-    left : verdict n
-        (first_of (value_refusal sizes.source used limit ∷ words_refusal 0 operator_field 0 list ∷ nesting_refusal limit list ∷ []))
-        ≡ verdict (length list / 5) (refusal (call_of list sizes used limit))
-    unfolding first_of
-    left =
-        let told = accepted n (length list / 5) (length_refusal list sizes) whole in
-        rw (told.0, table list sizes used limit, told.1)
-
-    pub by_values : (x : Accepted) → OneOf (1 ∷ []) (tag_of the_type x) → verdict_of x ≡ verdict n (value_refusal sizes.source used limit)
-        → Answers x
-    by_values x h e = refused-first x n (value_refusal sizes.source used limit) _ h e ∙ left
-
-    -- The values refuse nothing.
-    module _ (m : ℕ) (legal : is_read m ≡ verdict n (value_refusal sizes.source used limit)) where
-      left-words : verdict n (first_of (words_refusal 0 operator_field 0 list ∷ nesting_refusal limit list ∷ []))
-          ≡ verdict (length list / 5) (refusal (call_of list sizes used limit))
-      left-words = passed_first m n (value_refusal sizes.source used limit) _ legal ∙ left
-
-      pub by-words : (x : Accepted) → OneOf (1 ∷ []) (tag_of the_type x) → verdict_of x ≡ verdict n (words_refusal 0 operator_field 0 list)
-          → Answers x
-      by-words x h e = refused-first x n (words_refusal 0 operator_field 0 list) _ h e ∙ left-words
-
-      pub by-nesting : (l : ℕ) → is_read l ≡ verdict n (words_refusal 0 operator_field 0 list)
-          → (x : Accepted) → verdict_of x ≡ verdict n (nesting_refusal limit list) → Answers x
-      by-nesting l words x e =
-          e ∙ (ap (verdict n) (sym (last_one (nesting_refusal limit list)))
-          ∙ (passed_first l n (words_refusal 0 operator_field 0 list) _ words ∙ left-words))
+-- The lengths refuse nothing.
+pub whole-tokens : (list : List ℕ) (sizes : Sizes) (n : ℕ) → is_read n ≡ verdict (length list / 5) (length_refusal list sizes)
+    → (length list ≡ 5 * n) × (n ≤ 4096)
+unfolding length_rows
+whole-tokens list sizes n whole =
+    let told = accepted n (length list / 5) (length_refusal list sizes) whole in
+    let one = passed (eqb (length list % 5) 0) (row 1 0) _ told.1 in
+    let two = passed (leb (length list / 5) most_tokens) (row 2 0) _ one.1 in
+    let count = told.0 in
+    (omega (arith, eqb-true (length list % 5) 0 one.0), omega (arith, leb-true (length list / 5) most_tokens two.0))
 
 -- ---- The words, token by token
 

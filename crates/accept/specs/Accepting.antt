@@ -1,25 +1,25 @@
 -- What each answer of the checks says, the call that a list and the sizes beside it stand for, and the parts of the table that come before
 -- the words and after them.
-use Rattle.std.specs.Prelude.{ℕ, ◌+◌, ◌*◌, ◌^◌, List, [], ◌∷◌, leb, ltb, pos, replicate}
+use Rattle.std.specs.Prelude.{ℕ, ◌+◌, ◌*◌, ◌^◌, List, [], ◌∷◌, leb, ltb, pos, replicate, Result, Ok, Err}
 use Rattle.std.proofs.Math.Option.{Option, none, some}
 use Rattle.molang.specs.FirstFailure.{must, first_of}
 use Rattle.molang.specs.Words.{Refusal, row, with_number, tokens_of}
 use Rattle.molang.specs.Nesting.{too_deep}
 use Rattle.molang.specs.Parse.{Call, is_limit, length_rows}
+use Rattle.words.specs.Refusals.{reason_number}
+use Rattle.words.specs.declared.refusals.Refusal as code
 use Rattle.ops.specs.declared.sets.OpSet.{OpSet}
 use Rattle.accept.specs.declared.Sizes.{Sizes}
-use Rattle.accept.specs.declared.Accepted.{Accepted}
-use Rattle.accept.specs.declared.Accepted.TheVariants.{Tokens, Refused}
 
 -- What the checks find of a call: it is read, with so many tokens, or it is turned back with document 01's number and place.
 pub data Verdict : Type 0 where
   is_read : ℕ → Verdict
   is_refused : ℕ → ℕ → Verdict
 
--- What each case of `Accepted` says.
-abbrev pub verdict_of : Accepted → Verdict
-verdict_of (Tokens n) = is_read n
-verdict_of (Refused number place) = is_refused number place
+-- What an answer of the checks says.
+abbrev pub verdict_of : Result ℕ code.Refusal → Verdict
+verdict_of (Ok n) = is_read n
+verdict_of (Err r) = is_refused (reason_number r.reason) r.place
 
 -- What is to be said of a list of n tokens, by its refusal.
 abbrev pub verdict : ℕ → Option Refusal → Verdict

@@ -6,13 +6,15 @@
 ghost use Rattle.std.specs.Prelude.{◌≡◌, ◌*◌, ◌/◌, ◌≤◌, length};
 ghost use Rattle.molang.specs.Parse.{is_limit, refusal};
 ghost use Rattle.molang.specs.Words.{operator_field, words_refusal};
+ghost use Rattle.words.specs.Checks.{refusal_of};
 ghost use Rattle.accept.specs.Accepting.{verdict_of, verdict, call_of, length_refusal, value_refusal, nesting_refusal};
 
 use ops::open_after;
 use ops::sets::OpSet;
-use words::checks::{Checked, token};
+use words::checks::token;
+use words::fields;
+use words::refusals::{Reason, Refusal};
 use words::tokens::TokenWords;
-use words::{fields, refusals};
 
 // Words of the tree buffer per token, and of the work buffer per token and once more.
 pub const TREE_WORDS: usize = 21;
@@ -34,35 +36,28 @@ pub struct Sizes {
     pub source: u64,
 }
 
-// A call that is read, with its number of tokens, or the refusal's number and place.
-#[derive(Clone, Copy)]
-pub enum Accepted {
-    Tokens(usize),
-    Refused(u32, usize),
-}
-
 // Answers 1 to 5, which lengths alone decide.
-pub fn lengths(list: &[u32], sizes: Sizes) -> Accepted
+pub fn lengths(list: &[u32], sizes: Sizes) -> Result<usize, Refusal>
     ensures { verdict_of result ≡ verdict (length list.now / 5) (length_refusal list.now sizes) }
 {
     let words = list.len();
     if words % fields::TOKEN_WORDS != 0 {
-        return Accepted::Refused(refusals::LIST_NOT_WHOLE, 0);
+        return Err(Reason::ListNotWhole.at(0));
     }
     let n = words / fields::TOKEN_WORDS;
     if fields::MOST_TOKENS < n {
-        return Accepted::Refused(refusals::TOO_MANY_TOKENS, 0);
+        return Err(Reason::TooManyTokens.at(0));
     }
     if sizes.tree < TREE_WORDS * n {
-        return Accepted::Refused(refusals::SHORT_TREE_BUFFER, 0);
+        return Err(Reason::ShortTreeBuffer.at(0));
     }
     if sizes.messages < 2 * fields::RECORD_WORDS {
-        return Accepted::Refused(refusals::SHORT_MESSAGE_BUFFER, 0);
+        return Err(Reason::ShortMessageBuffer.at(0));
     }
     if sizes.work < WORK_WORDS * n + WORK_WORDS {
-        return Accepted::Refused(refusals::SHORT_WORK_BUFFER, 0);
+        return Err(Reason::ShortWorkBuffer.at(0));
     }
-    Accepted::Tokens(n)
+    Ok(n)
 }
 
 // Whether a nesting limit is in its range.
@@ -72,81 +67,61 @@ pub fn is_limit(limit: u32) -> bool
     1 <= limit && limit <= MOST_LIMIT
 }
 
-// Answers 6, 7 and 17, to a call of n tokens.
-fn values(n: usize, source: u64, used: OpSet, limit: u32) -> Accepted
-    ensures { verdict_of result ≡ verdict n (value_refusal «source» used limit) }
+// Answers 6, 7 and 17.
+fn values(source: u64, used: OpSet, limit: u32) -> Result<(), Refusal>
+    ensures { refusal_of result ≡ value_refusal «source» used limit }
 {
     if !used.is_legal() {
-        return Accepted::Refused(refusals::USED_SET_TOO_HIGH, 0);
+        return Err(Reason::UsedSetTooHigh.at(0));
     }
     if MOST_SOURCE < source {
-        return Accepted::Refused(refusals::SOURCE_TOO_LONG, 0);
+        return Err(Reason::SourceTooLong.at(0));
     }
     if !is_limit(limit) {
-        return Accepted::Refused(refusals::LIMIT_OUT_OF_RANGE, 0);
+        return Err(Reason::LimitOutOfRange.at(0));
     }
-    Accepted::Tokens(n)
+    Ok(())
 }
 
 // Answers 8 to 11: the words of n tokens, in list order. `lengths` has counted them.
-fn token_words(list: &[u32], n: usize) -> Accepted
+fn token_words(list: &[u32], n: usize) -> Result<(), Refusal>
     requires { length list.now ≡ 5 * n }
-    ensures { verdict_of result ≡ verdict n (words_refusal 0 operator_field 0 list.now) }
+    ensures { refusal_of result ≡ words_refusal 0 operator_field 0 list.now }
 {
-    let mut i = 0usize;
-    while i < n {
+    for i in 0..n {
         let at = fields::TOKEN_WORDS * i;
-        let words = TokenWords::at(list, at);
-        i += 1;
-        let checked = token(words, at);
-        match checked {
-            Checked::Good => {}
-            Checked::Bad(number, place) => {
-                return Accepted::Refused(number, place);
-            }
-        }
+        token(TokenWords::at(list, at), at)?;
     }
-    Accepted::Tokens(n)
+    Ok(())
 }
 
 // Answer 18: the brackets of n tokens against the limit. No more can be open than there are tokens, so a list no longer than the limit
 // is not looked at. The callers have counted them.
-pub fn nesting(list: &[u32], n: usize, limit: u32) -> Accepted
+pub fn nesting(list: &[u32], n: usize, limit: u32) -> Result<usize, Refusal>
     requires { (length list.now ≡ 5 * n) × (n ≤ 4096) }
     ensures { verdict_of result ≡ verdict n (nesting_refusal limit list.now) }
 {
     let most = limit as usize;
     if n <= most {
-        return Accepted::Tokens(n);
+        return Ok(n);
     }
     let mut depth = 0usize;
-    let mut index = 0usize;
-    while index < n {
+    for index in 0..n {
         let at = fields::TOKEN_WORDS * index;
         depth = open_after(depth, fields::operator_bits(list[at]));
         if most < depth {
-            return Accepted::Refused(refusals::NESTED_TOO_DEEP, index);
+            return Err(Reason::NestedTooDeep.at(index));
         }
-        index += 1;
     }
-    Accepted::Tokens(n)
+    Ok(n)
 }
 
 // All checks, in the table's order.
-pub fn accept(list: &[u32], sizes: Sizes, used: OpSet, limit: u32) -> Accepted
+pub fn accept(list: &[u32], sizes: Sizes, used: OpSet, limit: u32) -> Result<usize, Refusal>
     ensures { verdict_of result ≡ verdict (length list.now / 5) (refusal (call_of list.now sizes used limit)) }
 {
-    let length = lengths(list, sizes);
-    let Accepted::Tokens(n) = length else {
-        return length;
-    };
-    let value = values(n, sizes.source, used, limit);
-    let Accepted::Tokens(_) = value else {
-        return value;
-    };
-    let words = token_words(list, n);
-    let Accepted::Tokens(_) = words else {
-        return words;
-    };
+    let n = lengths(list, sizes)?;
+    values(sizes.source, used, limit)?;
+    token_words(list, n)?;
     nesting(list, n, limit)
 }

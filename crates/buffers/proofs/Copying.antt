@@ -1,28 +1,17 @@
--- Copying a run of words to the front of a buffer, a word a turn; and laying a tree out: the words that emission leaves, copied.
-use Prim.Native.Nat.{ℕ, zero, suc, ◌+◌, ◌*◌, ◌≤◌, ◌<◌}
-use mathlib.Core.{Path.{◌≡◌, refl, ap, ◌∙◌}, List.{List, [], ◌∷◌, ◌++◌}}
-use native.Mathlib.{Omega.{arith}, Numerals.{add-one}}
-use lib.{ListN.{length, get_or, take, drop, set, length-drop}, Seq.{get_or-drop, length-take-le}}
+-- Copying a run of words to the front of a buffer; and laying a tree out: the words that emission leaves, copied.
+use Prim.Native.Nat.{ℕ, ◌+◌, ◌*◌, ◌≤◌}
+use mathlib.Core.{Path.{◌≡◌, ap, ◌∙◌}, List.{List, ◌++◌}}
+use native.Mathlib.{Omega.{arith}}
+use lib.{ListN.{length, take, drop}}
 use Rattle.molang.{specs.Forest.{Forest}, specs.Words.{tree_words}, specs.Parse.{in_front}, proofs.Bounds.{tree_words-length}}
 use Rattle.words.specs.Tokens.{node_length}
 use Rattle.buffers.specs.Emit.{Linked, CanEmit, Emitted, CanLayOut, LaidOut}
 use Rattle.buffers.proofs.Runs.{seg-part}
 
-copy-suc : (i : ℕ) (s d : List ℕ) → i < length s → i < length d
-    → set (take i s ++ drop i d) i (get_or s i 0) ≡ take (suc i) s ++ drop (suc i) d
-copy-suc i [] d h k = absurd (omega arith)
-copy-suc i (x ∷ s) [] h k = absurd (omega arith)
-copy-suc zero (x ∷ s) (y ∷ d) h k = refl
-copy-suc (suc i) (x ∷ s) (y ∷ d) h k = ap (λ (l : List ℕ). x ∷ l) (copy-suc i s d (omega arith) (omega arith))
-
-module _ (W : List ℕ) (from : ℕ) (d : List ℕ) (n : ℕ) (within : from + n ≤ length W) (room : n ≤ length d) where
-  pub copy_step : (i : ℕ) → i < n → set (take i (drop from W) ++ drop i d) i (get_or W (from + i) 0)
-      ≡ take (i + 1) (drop from W) ++ drop (i + 1) d
-  copy_step i h =
-      rw (add-one i, ← get_or-drop from W i 0) (copy-suc i (drop from W) d (omega (arith, length-drop from W)) (omega arith))
-
-  pub copy_done : (i : ℕ) → i ≡ n → take i (drop from W) ++ drop i d ≡ in_front (take n (drop from W)) d
-  copy_done i e = unfold in_front in rw (e, length-take-le n (drop from W) (omega (arith, length-drop from W))) refl
+-- Words put over the first of d.
+pub copied : (ws d : List ℕ) {part : List ℕ} → part ≡ ws → part ++ drop (length ws) d ≡ in_front ws d
+unfolding in_front
+copied ws d e = rw e
 
 -- ---- `lay_out`
 

@@ -53,30 +53,29 @@ node-first : (done own A B P : List ℕ) → done ++ ((own ++ (A ++ B)) ++ P) �
 node-first done own A B P = simp append_assoc
 
 module _ (W : List ℕ) (first to stack : ℕ) (p : CanEmit W first to stack) where
-  -- So many of the nodes are written, and the lists gs are left; the count is enough for them.
-  pub record Progress (Z : List ℕ) (nodes fuel : ℕ) (gs : List Forest) : Type 0 where
+  -- So many of the nodes are written, and the lists gs are left.
+  pub record Progress (Z : List ℕ) (nodes : ℕ) (gs : List Forest) : Type 0 where
     pub done : List ℕ
     pub written : Seg Z to done
     pub count : length done ≡ node_length * nodes
     pub words : tree_words p.trees ≡ done ++ all_words gs
     pub whole : size p.trees ≡ nodes + all_size gs
-    pub fueled : all_size gs ≤ fuel
     pub same : (j : ℕ) → j < stack → wd Z j ≡ wd W j
     pub long : length Z ≡ length W
 
   -- At the loop's test: the current list f from the slot s on, and those that wait below `top`.
-  pub record EmitAt (Z : List ℕ) (s top nodes fuel : ℕ) : Type 0 where
+  pub record EmitAt (Z : List ℕ) (s top nodes : ℕ) : Type 0 where
     pub f : Forest
     pub fs : List Forest
     pub ws : List ℕ
-    pub progress : Progress Z nodes fuel (f ∷ fs)
+    pub progress : Progress Z nodes (f ∷ fs)
     pub current : Linked W s p.hi f
     pub wait : Wait W p.hi ws fs
     pub held : SegB Z stack ws
     pub at : top ≡ stack + length ws
     pub stops : s ≡ 0 → ws ≡ []
 
-  pub emit-start : EmitAt W first stack 0 (length W)
+  pub emit-start : EmitAt W first stack 0
   emit-start =
       record {
         f = p.trees;
@@ -88,7 +87,6 @@ module _ (W : List ℕ) (first to stack : ℕ) (p : CanEmit W first to stack) wh
           count = refl;
           words = sym (append-nil (tree_words p.trees));
           whole = omega arith;
-          fueled = omega (arith, p.room);
           same = λ j h. refl;
           long = refl;
         };
@@ -101,23 +99,23 @@ module _ (W : List ℕ) (first to stack : ℕ) (p : CanEmit W first to stack) wh
 
   -- ---- what a turn asks
 
-  slots_same : {Z : List ℕ} {nodes fuel : ℕ} {gs : List Forest} → Progress Z nodes fuel gs → (j : ℕ) → j < slot_start p.hi
+  slots_same : {Z : List ℕ} {nodes : ℕ} {gs : List Forest} → Progress Z nodes gs → (j : ℕ) → j < slot_start p.hi
       → wd Z j ≡ wd W j
   slots_same v j h = v.same j (omega (arith, p.below))
 
-  slots-within : {Z : List ℕ} {nodes fuel : ℕ} {gs : List Forest} → Progress Z nodes fuel gs → slot_start p.hi ≤ length Z
+  slots-within : {Z : List ℕ} {nodes : ℕ} {gs : List Forest} → Progress Z nodes gs → slot_start p.hi ≤ length Z
   slots-within v = omega (arith, p.below, p.spare, p.room, v.long)
 
-  pub record Turn (Z : List ℕ) (s top nodes fuel : ℕ) : Type 0 where
+  pub record Turn (Z : List ℕ) (s top nodes : ℕ) : Type 0 where
     pub node : CanEmitNode Z s (to + node_length * nodes)
     pub slot : slot_end s ≤ stack
     pub low : stack ≤ top
     pub high : top < to
 
-  pub emit-in : {Z : List ℕ} {s top nodes fuel : ℕ} → EmitAt Z s top nodes fuel → s ≢ 0 → Turn Z s top nodes fuel
-  emit-in {Z} {s} {top} {nodes} {fuel} v n = for v.f v.current v.progress
+  pub emit-in : {Z : List ℕ} {s top nodes : ℕ} → EmitAt Z s top nodes → s ≢ 0 → Turn Z s top nodes
+  emit-in {Z} {s} {top} {nodes} v n = for v.f v.current v.progress
     where
-      for : (f : Forest) → Linked W s p.hi f → Progress Z nodes fuel (f ∷ v.fs) → Turn Z s top nodes fuel
+      for : (f : Forest) → Linked W s p.hi f → Progress Z nodes (f ∷ v.fs) → Turn Z s top nodes
       for nil w g = absurd (omega (arith, some_size nil w n, size-nil))
       for (node k cs rest) w g =
           let o = linked-open w in
@@ -145,19 +143,19 @@ module _ (W : List ℕ) (first to stack : ℕ) (p : CanEmit W first to stack) wh
   -- ---- a node's words are written
 
   -- The children and the trees after the node at slot s come next.
-  record Between (Z : List ℕ) (s nodes fuel : ℕ) (fs : List Forest) : Type 0 where
+  record Between (Z : List ℕ) (s nodes : ℕ) (fs : List Forest) : Type 0 where
     cs : Forest
     rest : Forest
     children : Linked W (first_at Z s) p.hi cs
     after : Linked W (next_at Z s) p.hi rest
-    progress : Progress Z nodes fuel (cs ∷ rest ∷ fs)
+    progress : Progress Z nodes (cs ∷ rest ∷ fs)
 
-  between : {Z Z' : List ℕ} {s nodes fuel : ℕ} {fs : List Forest} (f : Forest) → Linked W s p.hi f → s ≢ 0
-      → Progress Z nodes fuel (f ∷ fs)
-      → NodeEmitted Z s (to + node_length * nodes) Z' → Between Z' s (nodes + 1) (fuel - 1) fs
+  between : {Z Z' : List ℕ} {s nodes : ℕ} {fs : List Forest} (f : Forest) → Linked W s p.hi f → s ≢ 0
+      → Progress Z nodes (f ∷ fs)
+      → NodeEmitted Z s (to + node_length * nodes) Z' → Between Z' s (nodes + 1) fs
   unfolding size tree_words
   between nil w n g x = absurd (omega (arith, some_size nil w n))
-  between {Z} {Z'} {s} {nodes} {fuel} {fs} (node k cs rest) w n g x =
+  between {Z} {Z'} {s} {nodes} {fs} (node k cs rest) w n g x =
       let o = linked-open w in
       let inside = o.inside in
       let below = p.below in
@@ -190,7 +188,6 @@ module _ (W : List ℕ) (first to stack : ℕ) (p : CanEmit W first to stack) wh
           count = omega (arith, g.count, length-append g.done (node_words_of k (count cs)), node-long k (count cs));
           words = g.words ∙ node-first g.done (node_words_of k (count cs)) (tree_words cs) (tree_words rest) (all_words fs);
           whole = omega arith;
-          fueled = omega (arith, g.fueled);
           same = same;
           long = x.long ∙ g.long;
         };
@@ -199,9 +196,9 @@ module _ (W : List ℕ) (first to stack : ℕ) (p : CanEmit W first to stack) wh
   -- ---- and emission goes on
 
   -- What is left counts by its words and its size alone, so empty lists are left out.
-  relist : {Z : List ℕ} {nodes fuel : ℕ} (gs hs : List Forest) → all_words gs ≡ all_words hs → all_size gs ≡ all_size hs
-      → Progress Z nodes fuel gs
-      → Progress Z nodes fuel hs
+  relist : {Z : List ℕ} {nodes : ℕ} (gs hs : List Forest) → all_words gs ≡ all_words hs → all_size gs ≡ all_size hs
+      → Progress Z nodes gs
+      → Progress Z nodes hs
   relist gs hs e n v =
       record {
         done = v.done;
@@ -209,21 +206,20 @@ module _ (W : List ℕ) (first to stack : ℕ) (p : CanEmit W first to stack) wh
         count = v.count;
         words = v.words ∙ ap (λ (l : List ℕ). v.done ++ l) e;
         whole = omega (arith, v.whole);
-        fueled = omega (arith, v.fueled);
         same = v.same;
         long = v.long;
       }
 
-  skip : {Z : List ℕ} {nodes fuel : ℕ} (f : Forest) (gs : List Forest) → f ≡ nil → Progress Z nodes fuel (f ∷ gs) → Progress Z nodes fuel gs
+  skip : {Z : List ℕ} {nodes : ℕ} (f : Forest) (gs : List Forest) → f ≡ nil → Progress Z nodes (f ∷ gs) → Progress Z nodes gs
   skip f gs e = unfold tree_words size in relist (f ∷ gs) gs (rw e refl) (rw e (omega arith))
 
-  skip-second : {Z : List ℕ} {nodes fuel : ℕ} (g f : Forest) (gs : List Forest) → f ≡ nil → Progress Z nodes fuel (g ∷ f ∷ gs)
-      → Progress Z nodes fuel (g ∷ gs)
+  skip-second : {Z : List ℕ} {nodes : ℕ} (g f : Forest) (gs : List Forest) → f ≡ nil → Progress Z nodes (g ∷ f ∷ gs)
+      → Progress Z nodes (g ∷ gs)
   skip-second g f gs e = unfold tree_words size in relist (g ∷ f ∷ gs) (g ∷ gs) (rw e refl) (rw e (omega arith))
 
   -- One more sibling waits.
-  push : {Z : List ℕ} {nodes fuel : ℕ} {gs : List Forest} (top x : ℕ) → stack ≤ top → top < to → Progress Z nodes fuel gs
-      → Progress (set Z top x) nodes fuel gs
+  push : {Z : List ℕ} {nodes : ℕ} {gs : List Forest} (top x : ℕ) → stack ≤ top → top < to → Progress Z nodes gs
+      → Progress (set Z top x) nodes gs
   push {Z} top x low high v =
       record {
         done = v.done;
@@ -231,7 +227,6 @@ module _ (W : List ℕ) (first to stack : ℕ) (p : CanEmit W first to stack) wh
         count = v.count;
         words = v.words;
         whole = v.whole;
-        fueled = v.fueled;
         same = λ j h. wd-other Z top x j (omega arith) ∙ v.same j h;
         long = length-set Z top x ∙ v.long;
       }
@@ -241,9 +236,9 @@ module _ (W : List ℕ) (first to stack : ℕ) (p : CanEmit W first to stack) wh
   length_none (w ∷ ws) e = absurd (omega arith)
 
   -- The last one that waits.
-  pop : (Z : List ℕ) {next top nodes fuel : ℕ} {ws : List ℕ} {fs : List Forest} → Wait W p.hi ws fs → SegB Z stack ws
+  pop : (Z : List ℕ) {next top nodes : ℕ} {ws : List ℕ} {fs : List Forest} → Wait W p.hi ws fs → SegB Z stack ws
       → top ≡ stack + length ws → top ≢ stack
-      → next ≡ wd Z (top - 1) → Progress Z nodes fuel fs → EmitAt Z next (top - 1) nodes fuel
+      → next ≡ wd Z (top - 1) → Progress Z nodes fs → EmitAt Z next (top - 1) nodes
   pop Z nobody h e n g v = absurd (omega arith)
   pop Z {next} {top} (waiting {w = w} {ws = ws} {f = f} {fs = fs} some linked r) h e n g v =
       let at : top - 1 ≡ stack + length ws = omega arith in
@@ -260,10 +255,10 @@ module _ (W : List ℕ) (first to stack : ℕ) (p : CanEmit W first to stack) wh
         stops = λ z. absurd (some (sym same ∙ z));
       }
 
-  moved : {Z : List ℕ} {s top nodes fuel next top' : ℕ} {Z' : List ℕ} {ws : List ℕ} {fs : List Forest} → top < to
-      → Between Z s nodes fuel fs → Wait W p.hi ws fs
+  moved : {Z : List ℕ} {s top nodes next top' : ℕ} {Z' : List ℕ} {ws : List ℕ} {fs : List Forest} → top < to
+      → Between Z s nodes fs → Wait W p.hi ws fs
       → SegB Z stack ws → top ≡ stack + length ws → Stepped Z (first_at Z s) (next_at Z s) stack top next top' Z'
-      → EmitAt Z' next top' nodes fuel
+      → EmitAt Z' next top' nodes
   moved {ws = ws} {fs = fs} high v wait held at (over e leaf some) =
       record {
         f = v.rest;
@@ -320,10 +315,10 @@ module _ (W : List ℕ) (first to stack : ℕ) (p : CanEmit W first to stack) wh
         stops = λ z. absurd (some z);
       }
 
-  pub emit-step : {Z Z' Z'' : List ℕ} {s top nodes fuel next top' : ℕ} → EmitAt Z s top nodes fuel → s ≢ 0
+  pub emit-step : {Z Z' Z'' : List ℕ} {s top nodes next top' : ℕ} → EmitAt Z s top nodes → s ≢ 0
       → NodeEmitted Z s (to + node_length * nodes) Z'
-      → Stepped Z' (first_at Z s) (next_at Z s) stack top next top' Z'' → EmitAt Z'' next top' (nodes + 1) (fuel - 1)
-  emit-step {Z} {Z'} {Z''} {s} {top} {nodes} {fuel} {next} {top'} v n x y =
+      → Stepped Z' (first_at Z s) (next_at Z s) stack top next top' Z'' → EmitAt Z'' next top' (nodes + 1)
+  emit-step {Z} {Z'} {Z''} {s} {top} {nodes} {next} {top'} v n x y =
       let turn = emit-in v n in
       let high = turn.high in
       let below = turn.node.below in
@@ -335,9 +330,9 @@ module _ (W : List ℕ) (first to stack : ℕ) (p : CanEmit W first to stack) wh
 
   -- ---- the end
 
-  nothing_left : {Z : List ℕ} {nodes fuel : ℕ} {gs : List Forest} → Progress Z nodes fuel gs → all_size gs ≡ 0
+  nothing_left : {Z : List ℕ} {nodes : ℕ} {gs : List Forest} → Progress Z nodes gs → all_size gs ≡ 0
       → Emitted W first to stack nodes Z
-  nothing_left {Z} {nodes} {fuel} {gs} v e =
+  nothing_left {Z} {nodes} {gs} v e =
       let all : tree_words p.trees ≡ v.done = v.words ∙ ap (λ (l : List ℕ). v.done ++ l) (none-words gs e) ∙ append-nil v.done in
       let number : nodes ≡ size p.trees = omega (arith, v.whole) in
       record {
@@ -348,13 +343,9 @@ module _ (W : List ℕ) (first to stack : ℕ) (p : CanEmit W first to stack) wh
       }
 
   -- No node is left to go to.
-  pub emit-done : {Z : List ℕ} {s top nodes fuel : ℕ} → EmitAt Z s top nodes fuel → s ≡ 0 → Emitted W first to stack nodes Z
-  emit-done {Z} {s} {top} {nodes} {fuel} v z = nothing_left v.progress (empty v.f (linked-none v.current z) v.wait (v.stops z))
+  pub emit-done : {Z : List ℕ} {s top nodes : ℕ} → EmitAt Z s top nodes → s ≡ 0 → Emitted W first to stack nodes Z
+  emit-done {Z} {s} {top} {nodes} v z = nothing_left v.progress (empty v.f (linked-none v.current z) v.wait (v.stops z))
     where
       empty : (f : Forest) {ws : List ℕ} {fs : List Forest} → f ≡ nil → Wait W p.hi ws fs → ws ≡ [] → all_size (f ∷ fs) ≡ 0
       empty f e nobody w = omega (arith, ap size e, size-nil)
       empty f e (waiting {ws = ws} n l r) w = absurd (omega (arith, ap length w))
-
-  -- The count is spent: each turn had a node of its own.
-  pub emit-spent : {Z : List ℕ} {s top nodes fuel : ℕ} → EmitAt Z s top nodes fuel → fuel ≡ 0 → Emitted W first to stack nodes Z
-  emit-spent v z = nothing_left v.progress (omega (arith, v.progress.fueled))

@@ -1,13 +1,14 @@
 // Emission: a tree of the node store as preorder tree words, laid out in the work buffer and copied to the caller's, and the
 // clearing of the work buffer. Leans on nodes and words.
-ghost use Rattle.std.specs.Prelude.{◌≡◌, ◌+◌, ◌*◌, ◌^◌, ◌≤◌, ◌<◌, length, take, drop, replicate};
+ghost use Rattle.std.specs.Prelude.{◌≡◌, ◌+◌, ◌*◌, ◌^◌, ◌≤◌, ◌<◌, length, replicate};
 ghost use Rattle.molang.specs.Parse.{in_front};
 ghost use Rattle.buffers.specs.Emit.{CanEmitNode, NodeEmitted, Stepped, CanEmit, Emitted, CanLayOut, LaidOut};
 
 use nodes::{children, slots};
 use words::fields;
+use words::tokens::TokenWords;
 
-// Where emission goes after a node: the next node, 0 at the end, and the top of the siblings that wait.
+// Where emission goes after a node: the next node, 0 at the end, as a slot links it, and the top of the siblings that wait.
 #[derive(Clone, Copy)]
 pub struct After {
     pub next: u32,
@@ -21,7 +22,7 @@ fn emit_node(work: &mut [u32], s: u32, at: usize)
 {
     let token = slots::token_of(work, s);
     let children = children::count_chain(work, slots::first_of(work, s));
-    token.token().lay_node(work, at, children, token.close);
+    TokenWords::from(token).lay_node(work, at, children, token.close);
 }
 
 // The node after one in preorder, of the node's first child and next sibling: the child, and the sibling waits; or the sibling; or the last
@@ -56,8 +57,7 @@ fn node_after(work: &mut [u32], first: u32, next: u32, stack: usize, top: usize)
 // Writes the trees of the chain from `first` on, each parent before its children, to the words from `to` on, and gives
 // back their number of nodes. Siblings that wait stand in the words from `stack` on. `lay_out` and `parse`'s `extent_of` have trees of at
 // most three nodes for each token, and 64 words for each token and 64 more. A node's links are read before its words are written: the
-// compiler cannot know that they stay as they were. The fuel is there because a loop's measure is a number of the program's variables, and
-// the nodes that are left are known of the trees that the words hold, not of the words; the proof shows that it never runs out.
+// compiler cannot know that they stay as they were.
 pub fn emit(work: &mut [u32], first: u32, to: usize, stack: usize) -> usize
     requires { CanEmit work.old first to stack }
     ensures { Emitted work.old first to stack result work.new }
@@ -65,12 +65,7 @@ pub fn emit(work: &mut [u32], first: u32, to: usize, stack: usize) -> usize
     let mut s = first;
     let mut top = stack;
     let mut nodes = 0usize;
-    let mut fuel = work.len();
-    while 0 < fuel {
-        fuel -= 1;
-        if s == 0 {
-            return nodes;
-        }
+    while s != 0 {
         let child = slots::first_of(work, s);
         let sibling = slots::next_of(work, s);
         emit_node(work, s, to + fields::NODE_WORDS * nodes);
@@ -82,16 +77,12 @@ pub fn emit(work: &mut [u32], first: u32, to: usize, stack: usize) -> usize
     nodes
 }
 
-// Copies n words of the work buffer, from `from` on, to the front of the tree buffer. `lay_out` has room for them in both.
-pub fn copy_tree(work: &[u32], from: usize, tree: &mut [u32], n: usize)
-    requires { (from + n ≤ length work.now) × (n ≤ length tree.old) }
-    ensures { tree.new ≡ in_front (take n (drop from work.now)) tree.old }
+// Copies words to the front of the tree buffer. `lay_out` has room for them.
+pub fn copy_tree(words: &[u32], tree: &mut [u32])
+    requires { length words.now ≤ length tree.old }
+    ensures { tree.new ≡ in_front words.now tree.old }
 {
-    let mut i = 0usize;
-    while i < n {
-        tree[i] = work[from + i];
-        i += 1;
-    }
+    tree[..words.len()].copy_from_slice(words);
 }
 
 // Where the tree words of n tokens are laid out in the work buffer: above the siblings that wait during their emission. The callers have
@@ -111,7 +102,8 @@ pub fn lay_out(work: &mut [u32], tree: &mut [u32], root: u32, n: usize) -> usize
 {
     let to = tree_of(n);
     let nodes = emit(work, root, to, slots::stack_of(n));
-    copy_tree(work, to, tree, fields::NODE_WORDS * nodes);
+    let end = to + fields::NODE_WORDS * nodes;
+    copy_tree(&work[to..end], tree);
     nodes
 }
 
@@ -119,9 +111,5 @@ pub fn lay_out(work: &mut [u32], tree: &mut [u32], root: u32, n: usize) -> usize
 pub fn clear(work: &mut [u32])
     ensures { work.new ≡ replicate (length work.old) 0 }
 {
-    let mut i = 0usize;
-    while i < work.len() {
-        work[i] = 0;
-        i += 1;
-    }
+    work.fill(0);
 }

@@ -16,7 +16,7 @@ fn load_token(list: &[u32], work: &mut [u32], table: &[u32; 111], i: usize, stac
     let slot = slots::slot_of(i as u32);
     let token = TokenWords::at(list, fields::TOKEN_WORDS * i);
     let classes = class(table, fields::operator_bits(token.operator));
-    slots::set_leaf(work, slot, StoredWords::of(token), classes);
+    slots::set_leaf(work, slot, StoredWords::from(token), classes);
     work[stack + i] = slot;
 }
 
@@ -27,9 +27,7 @@ pub fn load(list: &[u32], work: &mut [u32], n: usize)
 {
     let table = class_table();
     let stack = slots::stack_of(n);
-    let mut i = 0usize;
-    while i < n {
+    for i in 0..n {
         load_token(list, work, &table, i, stack);
-        i += 1;
     }
 }

@@ -1,20 +1,16 @@
 -- The words of a list token by token: which of the five count, what a legal list's exact set and highest end are, and their bounds.
 -- Assumes nothing.
-use mathlib.Core.{Path.{◌≡◌, refl, sym, ap, ◌∙◌}, Bool.{Bool, false, ◌||◌, ◌&&◌}, List.{List, [], ◌∷◌}, Option.{Option, none, some}}
+use mathlib.Core.{Path.{◌≡◌, refl, sym, ap, ◌∙◌}, Bool.{Bool, true, false, ◌||◌, ◌&&◌, false≢true}, List.{List, [], ◌∷◌}, Option.{Option, none, some}}
 use Prim.Native.Nat.{ℕ, suc, ◌+◌, ◌*◌, ◌%◌, ◌^◌, ◌<◌, ◌≤◌, max}
 use native.Mathlib.Omega.{arith}
 use lib.{Dec.{eqb, leb}, ListN.{length, drop, get_or, drop_of_length-le}, Seq.{drop-cons, drop-drop}}
 use borrow.Author.Tests.{ne_eqb, lt-leb, leb-true, leb-false}
-use types.Run.{OneOf}
-use denote.Enum.Declared.{tag_of}
+use Rattle.std.specs.Prelude.{⊤, Result, Ok, Err, is_err}
 use Rattle.molang.specs.{Forest.{leaves}, Parse.{in_halves}, Read.{uses, highest_end}}
 use Rattle.molang.specs.Words.{Field, operator_field, start_field, end_field, upper_field, lower_field, count_field, close_field, low_of, number_in}
 use Rattle.molang.specs.Words.{low_fault, word_fault, variant_after, next_in_token, words_refusal, token_of, tokens_of}
 use Rattle.molang.proofs.{Booleans.{either}, Words.{next_word}, UsedSet.{used-few}}
-use Rattle.words.specs.{Checks.{number_of}, declared.checks.Word.{Word}}
-use Rattle.words.specs.declared.checks.Word.TheVariants.{Good, WrongKind, HighOperator, HighVariant, OtherBit}
-use Rattle.words.proofs.{CheckLaws.{none-bad}}
-use Rattle.words.specs.contracts.checks.Word.{the_type}
+use Rattle.words.specs.{Checks.{number_of}, Refusals.{reason_number}, declared.refusals.Reason.{Reason}}
 use Rattle.derived.specs.Derived.{names, named, end_after, highest}
 
 -- The words after a token's first name nothing, and those after its third have no end.
@@ -84,20 +80,18 @@ pub end-fault : (m w : ℕ) (fault : ℕ) → word_fault end_field 0 w ≡ some 
 end-fault m w fault e = unfold end_after in rw (e, end_after) refl
 
 -- A word that is not good has a fault.
-with-fault : (P : Option ℕ → Type 0) → ((n : ℕ) → P (some n)) → (x : Word) → OneOf (1 ∷ 2 ∷ 3 ∷ 4 ∷ []) (tag_of the_type x) → P (number_of x)
-with-fault P f Good h = absurd (none-bad h)
-with-fault P f WrongKind h = f 8
-with-fault P f HighOperator h = f 9
-with-fault P f HighVariant h = f 10
-with-fault P f OtherBit h = f 11
+pub names-bad : (w n : ℕ) (x : Result ⊤ Reason) → is_err x ≡ true → number_of x ≡ word_fault operator_field 0 w → names operator_field w n ≡ false
+names-bad w n (Ok _) bad e = absurd (false≢true bad)
+names-bad w n (Err r) bad e = names-fault w n (reason_number r) (sym e)
 
-module _ (x : Word) (bad : OneOf (1 ∷ 2 ∷ 3 ∷ 4 ∷ []) (tag_of the_type x)) where
-  pub names-bad : (w n : ℕ) → number_of x ≡ word_fault operator_field 0 w → names operator_field w n ≡ false
-  names-bad w n =
-      with-fault (λ o. o ≡ word_fault operator_field 0 w → names operator_field w n ≡ false) (λ fault e. names-fault w n fault (sym e)) x bad
+pub end-bad : (m w : ℕ) (x : Result ⊤ Reason) → is_err x ≡ true → number_of x ≡ word_fault end_field 0 w → end_after end_field m w ≡ m
+end-bad m w (Ok _) bad e = absurd (false≢true bad)
+end-bad m w (Err r) bad e = end-fault m w (reason_number r) (sym e)
 
-  pub end-bad : (m w : ℕ) → number_of x ≡ word_fault end_field 0 w → end_after end_field m w ≡ m
-  end-bad m w = with-fault (λ o. o ≡ word_fault end_field 0 w → end_after end_field m w ≡ m) (λ fault e. end-fault m w fault (sym e)) x bad
+-- A good word has none.
+pub good-word : (x : Result ⊤ Reason) → is_err x ≡ false → number_of x ≡ none
+good-word (Ok _) good = refl
+good-word (Err r) good = absurd (false≢true (sym good))
 
 -- A number up to 110 is named by itself alone; one above it, a host's, names nothing.
 low-alone : (op n : ℕ) → op ≤ 110 → (leb n 110 && eqb op n) ≡ eqb op n

@@ -10,8 +10,9 @@ ghost use Rattle.molang.specs.Lines.{version_of};
 ghost use Rattle.derived.specs.Derived.{names, named, end_after, highest};
 
 use ops::sets::OpSet;
-use words::checks::{Word, is_low_operator, operator_word, span_word};
+use words::checks::{is_low_operator, operator_word, span_word};
 use words::fields;
+use words::fields::WordKind;
 
 // The set with op in it, which is the operator of a legal word and no host's number.
 fn with(used: OpSet, op: u32) -> OpSet
@@ -21,12 +22,12 @@ fn with(used: OpSet, op: u32) -> OpSet
     if op < 64 {
         return OpSet {
             low: used.low | (1u64 << op),
-            high: used.high,
+            ..used
         };
     }
     OpSet {
-        low: used.low,
         high: used.high | (1u64 << (op - 64)),
+        ..used
     }
 }
 
@@ -34,10 +35,9 @@ fn with(used: OpSet, op: u32) -> OpSet
 fn with_any(used: OpSet, w: u32) -> OpSet
     ensures { (n : ℕ) → in_halves result.low result.high n ≡ (in_halves used.low used.high n || names operator_field w n) }
 {
-    let word = operator_word(w);
-    let Word::Good = word else {
+    if operator_word(w).is_err() {
         return used;
-    };
+    }
     let op = fields::operator(w);
     if fields::LAST_OPERATOR < op {
         return used;
@@ -59,15 +59,10 @@ fn with_word(used: OpSet, w: u32) -> OpSet
 fn higher(end: u32, w: u32) -> u32
     ensures { result ≡ end_after end_field end w }
 {
-    let word = span_word(w, fields::END);
-    let Word::Good = word else {
+    if span_word(w, WordKind::End).is_err() {
         return end;
-    };
-    let here = fields::low(w);
-    if end < here {
-        return here;
     }
-    end
+    end.max(fields::low(w))
 }
 
 // The operators of the list's tokens.
@@ -75,10 +70,8 @@ pub fn used_of(list: &[u32]) -> OpSet
     ensures { (n : ℕ) → in_halves result.low result.high n ≡ named operator_field list.now n }
 {
     let mut used = OpSet { low: 0, high: 0 };
-    let mut i = 0usize;
-    while i < list.len() {
+    for i in (0..list.len()).step_by(fields::TOKEN_WORDS) {
         used = with_word(used, list[i]);
-        i += fields::TOKEN_WORDS;
     }
     used
 }
@@ -88,10 +81,8 @@ pub fn highest_end(list: &[u32]) -> u32
     ensures { result ≡ highest operator_field 0 list.now }
 {
     let mut end = 0u32;
-    let mut i = fields::END_FIELD;
-    while i < list.len() {
+    for i in (fields::END_FIELD..list.len()).step_by(fields::TOKEN_WORDS) {
         end = higher(end, list[i]);
-        i += fields::TOKEN_WORDS;
     }
     end
 }

@@ -14,19 +14,23 @@ use Rattle.everylist.proofs.{NumberLaws.{fine-chunks}, Prints.{behind, text-earl
 -- ---- What came
 
 -- ONE CHUNK MORE behind whole words.
-pub rest-on : (space space' : List ℕ) (rest next : Rest) → RestRead space rest → rest.bytes % 4 ≡ 0 → next.bytes ≤ 72057594037927936
-    → Onward rest space' next
+pub rest-on : (space space' : List ℕ) (rest next : Rest) (last : ℕ) → RestRead space rest → rest.bytes % 4 ≡ 0 → last ≤ length space'
+    → rest.bytes + last ≤ 72057594037927936
+    → Onward rest (take last space') next
     → RestRead space' next
-rest-on space space' rest next q whole room o =
+rest-on space space' rest next last q whole few room o =
     let came = q.before ++ take rest.last space in
-    let chunk = take next.last space' in
+    let chunk = take last space' in
+    let long : length chunk ≡ last = length-take-le last space' few in
+    let same : take next.last space' ≡ chunk = ap (λ (n : ℕ). take n space') (o.last ∙ long) in
     record {
       before = came;
-      bytes = omega (arith, o.bytes, q.bytes, length-append came chunk, length-take-le next.last space' o.few);
-      fine = o.fine
+      bytes = rw same (omega (arith, o.bytes, q.bytes, length-append came chunk));
+      fine = rw same
+          (o.fine
           ∙ ap (λ (b : Bool). b && all_numbers (words_in chunk)) q.fine
-          ∙ sym (fine-chunks came chunk (omega (arith, q.bytes)));
-      room = room;
+          ∙ sym (fine-chunks came chunk (omega (arith, q.bytes))));
+      room = omega (arith, o.bytes);
     }
 
 -- An input that ended within the front, and one that went on behind it.

@@ -35,6 +35,11 @@ front_same n m words e size = ap (λ (n : ℕ). take n words) e ∙ front-least 
 pub letters-same : (n m : ℕ) (words : List ℕ) → n ≡ min m 11 → length words ≡ 11 → take (n - 2) (drop 2 words) ≡ drop 2 (take m words)
 letters-same n m words e size = drop-take n words ∙ ap (drop 2) (front_same n m words e size)
 
+-- What the code finds of the numbers of those that are kept.
+pub looked : (n m : ℕ) (words : List ℕ) (r : Bool) → n ≡ min m 11 → length words ≡ 11 → r ≡ all_numbers (take n words)
+    → r ≡ all_numbers (take m words)
+looked n m words r e size told = told ∙ ap all_numbers (front_same n m words e size)
+
 -- WHERE IT IS TURNED BACK
 module _ (bytes : ℕ) (words : List ℕ) (fine : Bool) where
   pub not-whole : (bytes % 4 ≡ 0 → ⊥) → some (row 1 0) ≡ kept_fault (kept bytes words fine)
@@ -117,8 +122,3 @@ unfolding all_numbers is_number
 version-bits m [] e one h = absurd (omega arith)
 version-bits zero (w ∷ words) e one h = absurd (omega arith)
 version-bits (suc m) (w ∷ words) e one h = ltb-true w (2 ^ 16) (both (is_number w) _ e).0
-
--- The last words do not matter to one that is not turned back.
-pub still-unturned : (bytes : ℕ) (words : List ℕ) (fine : Bool) → none ≡ kept_fault (kept bytes words fine)
-    → kept_fault (kept bytes words true) ≡ none
-still-unturned bytes words fine h = let e = (unturned bytes words fine (sym h)).rest in rw e at (sym h)

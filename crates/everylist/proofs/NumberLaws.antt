@@ -2,11 +2,22 @@
 use Prim.Native.Nat.{ℕ, ◌+◌, ◌%◌, ◌≤◌, ◌<◌}
 use mathlib.Core.{Path.{◌≡◌, refl, ap, sym, ◌∙◌}, Bool.{true, false, ◌&&◌, and_assoc}, List.{List, [], ◌∷◌, ◌++◌}}
 use native.Mathlib.{Numerals.{add-one}, Omega.{arith}}
-use lib.{ListN.{length, drop, get_or, drop_of_length-le}, Seq.{drop-cons}}
+use lib.{Dec.{leb, ltb}, ListN.{length, drop, get_or, drop_of_length-le}, Seq.{drop-cons}}
 use borrow.Author.Tests.{lt-ltb, le-ltb}
+use Rattle.std.specs.List.{list_all}
+use Rattle.std.proofs.lemmas.Bool.Decides.{nat_tests}
 use Rattle.listing.specs.Lists.{words_in}
 use Rattle.everylist.specs.EveryList.{is_number, all_numbers}
 use Rattle.everylist.proofs.PartLaws.{words_append}
+
+-- The library's `all` is the definition's test of each word.
+pub numbers-listed : (ws : List ℕ) → list_all (λ (w : ℕ). leb w 65535) ws ≡ all_numbers ws
+unfolding all_numbers is_number
+numbers-listed [] = refl
+numbers-listed (w ∷ ws) = rw (numbers-listed ws, same w) refl
+  where
+    same : (w : ℕ) → leb w 65535 ≡ ltb w 65536
+    same w = grind (arith, nat_tests)
 
 -- ONE BY ONE. The words from one on decide where those before it are such numbers.
 module _ (ws : List ℕ) (i : ℕ) (e : all_numbers ws ≡ all_numbers (drop i ws)) where

@@ -1,20 +1,17 @@
 -- The whole of a run: what came of an input, chunk by chunk, and what was handed to `write`, position by position.
 use Rattle.std.specs.Prelude.{ℕ, ◌+◌, ◌≤◌, ◌≡◌, Bool, ◌&&◌, List, [], ◌++◌, length, take, drop}
 use Rattle.std.proofs.Math.Option.{some}
-use Rattle.streams.specs.Came.{FullBy}
 use Rattle.listing.specs.Lists.{words_in}
 use Rattle.everylist.specs.declared.read.Rest.{Rest}
-use Rattle.everylist.specs.declared.Printed.{Printed}
-use Rattle.everylist.specs.declared.Printed.TheVariants.{All, Failed}
 use Rattle.everylist.specs.EveryList.{all_numbers, printed}
-use Rattle.everylist.specs.Steps.{Kept, kept_of, text_at}
+use Rattle.everylist.specs.declared.kept.Kept.{Kept}
+use Rattle.everylist.specs.Steps.{kept_of, text_at}
 
--- One chunk more, which lies in front of the space: it is counted, and its words are looked at.
-pub record Onward (rest : Rest) (space : List ℕ) (next : Rest) : Type 0 where
-  pub few : next.last ≤ length space
-  pub full : FullBy next.end next.last (length space)
-  pub bytes : next.bytes ≡ rest.bytes + next.last
-  pub fine : next.fine ≡ (rest.fine && all_numbers (words_in (take next.last space)))
+-- One chunk more: it is counted, and its words are looked at.
+pub record Onward (rest : Rest) (chunk : List ℕ) (next : Rest) : Type 0 where
+  pub bytes : next.bytes ≡ rest.bytes + length chunk
+  pub fine : next.fine ≡ (rest.fine && all_numbers (words_in chunk))
+  pub last : next.last ≡ length chunk
 
 -- WHAT CAME BEHIND THE FRONT: some bytes, and behind them those that came last, which lie in front of the space.
 pub record RestRead (space : List ℕ) (rest : Rest) : Type 0 where
@@ -47,8 +44,3 @@ pub record Whole (k : Kept) (positions : ℕ) : Type 0 where
   pub text : List ℕ
   pub steps : Handed k positions text
   pub prints : (input : List ℕ) → k ≡ kept_of input → text ≡ printed input
-
--- The same by how the printing ended.
-abbrev pub AllHanded : Kept → Printed → Type 0
-AllHanded k (All positions) = Whole k positions
-AllHanded k Failed = Unit {0}

@@ -1,6 +1,7 @@
 -- The steps of the program `everylist`: what it keeps of an input, the text at each position, and that of all positions one after another,
 -- which is `printed` of the input (`steps-print`, `kept-prints`).
-use Rattle.std.specs.Prelude.{ℕ, zero, suc, ◌+◌, ◌*◌, ◌/◌, ◌%◌, ◌≤◌, ◌≡◌, Bool, true, false, ◌&&◌, List, [], ◌∷◌, ◌++◌, eqb, leb, ltb, ℤ, length, take, drop, get_or, replicate}
+use Rattle.std.specs.Prelude.{ℕ, zero, suc, ◌+◌, ◌*◌, ◌/◌, ◌%◌, ◌≤◌, ◌≡◌, Bool, true, false, ◌&&◌, List, [], ◌∷◌, ◌++◌, eqb, leb, ltb, ℤ, length, take, drop, get_or, replicate, Result, Ok, Err, None, Some}
+use Rattle.std.specs.declared.option.Option as code
 use Rattle.std.proofs.Math.Option.{Option, none, some}
 use Rattle.molang.specs.FirstFailure.{must, first_of}
 use Rattle.molang.specs.Words.{Refusal, row}
@@ -9,20 +10,12 @@ use Rattle.words.specs.Fields.{operator_of}
 use Rattle.text.specs.Text.{Wrote}
 use Rattle.listing.specs.Lists.{words_in, list_text}
 use Rattle.shortlists.specs.ShortLists.{up_to, count_refusal}
-use Rattle.everylist.specs.declared.kept.Fault.{Fault}
-use Rattle.everylist.specs.declared.kept.Fault.TheVariants.{Refused, Nothing}
-use Rattle.everylist.specs.declared.step.Step.{Step}
-use Rattle.everylist.specs.declared.step.Step.TheVariants.{Text, Done}
+use Rattle.words.specs.Refusals.{reason_number}
+use Rattle.words.specs.declared.refusals.Reason.{Reason}
+pub use Rattle.everylist.specs.declared.kept.Kept.{Kept}
 use Rattle.everylist.specs.EveryList.{all_numbers, head_text, short_text, short_texts, refusal_line}
 
--- What the program keeps of an input: how many bytes it has, its first eleven words, where it has as many, and whether no word behind them
--- is faulty. A version, a length and eight letters are ten words; with one more the alphabet is too long, whatever the letter.
-pub record Kept : Type 0 where
-  pub bytes : ℕ
-  pub words : List ℕ
-  pub fine : Bool
-
--- The same, by what the program's functions are given.
+-- What the program keeps of an input, by its parts.
 abbrev pub kept : ℕ → List ℕ → Bool → Kept
 kept bytes words fine = record { bytes = bytes; words = words; fine = fine }
 
@@ -43,10 +36,10 @@ kept_fault k =
     ∷ count_refusal (drop 2 (kept_words k)) (get_or k.words 1 0)
     ∷ [])
 
--- What each case of `Fault` says.
-abbrev pub fault_of : Fault → Option Refusal
-fault_of (Refused number) = some (row number 0)
-fault_of Nothing = none
+-- Where the input is turned back, by what `Kept::fault` answers.
+abbrev pub fault_of : Result (Unit {0}) Reason → Option Refusal
+fault_of (Ok _) = none
+fault_of (Err reason) = some (row (reason_number reason) 0)
 
 -- The lists that it asks for.
 unfoldable pub kept_lists : Kept → List (List ℕ)
@@ -75,11 +68,11 @@ unfoldable pub kept_text : Kept → List ℕ
 kept_text k = elim (kept_fault k) [ some r ↦ refusal_line r | none ↦ short_texts (version_of (get_or k.words 0 0)) (kept_lists k) ]
 
 -- What a step lays into the lent bytes: the text, of which it tells the length, or nothing.
-abbrev pub Stepped : Option (List ℕ) → List ℕ → Step → List ℕ → Type 0
-Stepped (some text) before (Text n) after = (n ≤ length after) × Wrote before 0 text n after
-Stepped (some text) before Done after = ⊥
-Stepped none before (Text n) after = ⊥
-Stepped none before Done after = after ≡ before
+abbrev pub Stepped : Option (List ℕ) → List ℕ → code.Option ℕ → List ℕ → Type 0
+Stepped (some text) before (Some n) after = (n ≤ length after) × Wrote before 0 text n after
+Stepped (some text) before None after = ⊥
+Stepped none before (Some n) after = ⊥
+Stepped none before None after = after ≡ before
 
 -- The operators of the first tokens of a list's words.
 unfoldable pub letters_in : ℕ → List ℕ → List ℕ

@@ -8,59 +8,42 @@ mod kept;
 mod read;
 mod step;
 
-ghost use Rattle.std.specs.Prelude.{◌≡◌, length};
+ghost use Rattle.std.specs.Prelude.{◌≡◌, length, IfOk};
 ghost use Rattle.std.proofs.Math.Option.{some};
-ghost use Rattle.everylist.specs.Steps.{kept, text_at};
-ghost use Rattle.everylist.specs.Input.{Came, OfInput, AllHanded};
+ghost use Rattle.everylist.specs.Steps.{text_at};
+ghost use Rattle.everylist.specs.Input.{Came, OfInput, Whole};
 
+use crate::kept::Kept;
 use crate::read::read_rest;
-use crate::step::{Step, step_at};
+use crate::step::step_at;
 use listing::bytes::words_of;
 use std::io::{Read, Write, writer};
-use streams::{End, fill};
+use streams::fill;
 use text::put_bytes;
 
 // The bytes of the words that are kept.
 const FRONT: usize = 44;
 
-// The texts at so many positions were handed over, and there are no more; or a write failed.
-#[derive(Clone, Copy)]
-enum Printed {
-    All(u64),
-    Failed,
-}
-
 // Hands a text to `write`: it is the one at this position.
-fn hand<W: Write>(
-    to: &mut W,
-    text: &[u8],
-    words: &[u32],
-    bytes: usize,
-    fine: bool,
-    position: u64,
-) -> bool
-    requires { text_at (kept bytes words.now fine) position ≡ some text.now }
+fn hand<W: Write>(to: &mut W, text: &[u8], kept: &Kept, position: u64) -> std::io::Result<()>
+    requires { text_at kept.now position ≡ some text.now }
 {
-    to.write_all(text).is_ok()
+    to.write_all(text)
 }
 
-// Prints the text at each position, up to the end, which is within 299,594 positions: there are no more lists of 8 letters to length 6.
-fn print<W: Write>(to: &mut W, words: &[u32], bytes: usize, fine: bool) -> Printed
-    requires { (length words.now ≡ 11) × OfInput (kept bytes words.now fine) }
-    ensures { AllHanded (kept bytes words.now fine) result }
+// Prints the text at each position, up to the end; at how many positions there was one. The end is within 299,594 positions: there are no
+// more lists of 8 letters to length 6.
+fn print<W: Write>(to: &mut W, kept: &Kept) -> std::io::Result<u64>
+    requires { OfInput kept.now }
+    ensures { IfOk result (Whole kept.now) }
 {
     let mut out = [0u8; 2048];
     let mut position = 0u64;
-    loop {
-        let stepped = step_at(&mut out, words, bytes, fine, position);
-        let Step::Text(n) = stepped else {
-            return Printed::All(position);
-        };
-        if !hand(to, &out[..n], words, bytes, fine, position) {
-            return Printed::Failed;
-        }
+    while let Some(n) = step_at(&mut out, kept, position) {
+        hand(to, &out[..n], kept, position)?;
         position += 1;
     }
+    Ok(position)
 }
 
 // A line on standard error; nothing more is printed.
@@ -72,15 +55,14 @@ fn fail<E: Eprint>(rt: &E, line: &str) {
 fn answer<S: Print + Eprint>(rt: &S, front: &[u8], bytes: usize, fine: bool)
     requires { Came front.now bytes fine }
 {
-    let mut whole = [0u8; 44];
+    let mut whole = [0u8; FRONT];
     put_bytes(&mut whole, 0, front);
     let mut words = [0u32; 11];
     words_of(&whole, &mut words);
     let mut to = writer(rt);
-    let printed = print(&mut to, &words, bytes, fine);
-    match printed {
-        Printed::All(_) => {}
-        Printed::Failed => fail(rt, "everylist: a write failed, and the text is not whole"),
+    let kept = Kept { bytes, words, fine };
+    if print(&mut to, &kept).is_err() {
+        fail(rt, "everylist: a write failed, and the text is not whole");
     }
 }
 
@@ -93,23 +75,18 @@ fn go_on<R: Read, S: Print + Eprint>(input: &mut R, rt: &S, front: &[u8])
     requires { length front.now ≡ 44 }
 {
     let mut space = io::large_buffer();
-    let rest = read_rest(input, &mut space);
-    let end = rest.end;
-    match end {
-        End::Ended => answer(rt, front, FRONT + rest.bytes, rest.fine),
-        End::Full | End::Failed => unread(rt),
+    match read_rest(input, &mut space) {
+        Some(rest) => answer(rt, front, FRONT + rest.bytes, rest.fine),
+        None => unread(rt),
     }
 }
 
 fn main(rt: HostRuntime) {
     let mut input = rt.stdin();
-    let mut front = [0u8; 44];
-    let came = fill(&mut input, &mut front);
-    let n = came.bytes;
-    let end = came.end;
-    match end {
-        End::Full => go_on(&mut input, &rt, &front),
-        End::Ended => answer(&rt, &front[..n], n, true),
-        End::Failed => unread(&rt),
+    let mut front = [0u8; FRONT];
+    match fill(&mut input, &mut front) {
+        Ok(FRONT) => go_on(&mut input, &rt, &front),
+        Ok(n) => answer(&rt, &front[..n], n, true),
+        Err(_) => unread(&rt),
     }
 }

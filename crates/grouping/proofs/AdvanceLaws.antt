@@ -9,10 +9,11 @@ use Rattle.nodes.{specs.Store.{wd, slot_start, RepT, Free}, proofs.Keeping.{free
 use Rattle.levels.specs.Sides.{Holds, Waits}
 use Rattle.levels.specs.Turns.{SameList, Within, CanTurn, turns_left, Begins, TurnTo, goes, enters, ends, fails, Turned}
 use Rattle.levels.specs.{declared.failure.Failure.{Failure}, declared.turns.Walk.{Walk}, declared.turns.Turn.{Turn}}
-use Rattle.levels.specs.declared.turns.Turn.TheVariants.{On, Enter, Over, Fail}
+use Rattle.levels.specs.declared.turns.Turn.TheVariants.{On, Enter, Over}
+use Rattle.std.specs.Prelude.{Result as Returned, Ok, Err}
 use Rattle.grouping.specs.Driver.{Room, Stack, Full, Going, turns_below, Beyond, NextTo, CanDescend, Descended, CanClose, Closed}
 use Rattle.grouping.specs.{Driver.{CanAdvance, Advanced}, declared.driver.Next.{Next}}
-use Rattle.grouping.specs.declared.driver.Next.TheVariants.{On as Onward, Fail as Stopped}
+use Rattle.grouping.specs.declared.driver.Next.TheVariants.{On as Onward}
 use Rattle.grouping.proofs.StackLaws.{Bounds, stack-bounds, stack-keep, top-beyond, beyond-then}
 
 pub advance-can-turn : {W : List ℕ} {w : Walk} {base0 : ℕ} → CanAdvance W w base0 → CanTurn W w
@@ -28,14 +29,14 @@ advance-can-turn {w = w} g =
       small = g.going.small;
     }
 
-next_more : {κ : Kind} {classes : ℕ} {W' : List ℕ} {base0 hi0 : ℕ} {r : Result} {turns turns' : ℕ} {x : Next} → turns ≤ turns'
+next_more : {κ : Kind} {classes : ℕ} {W' : List ℕ} {base0 hi0 : ℕ} {r : Result} {turns turns' : ℕ} {x : Returned Next Failure} → turns ≤ turns'
     → NextTo κ classes W' base0 hi0 r turns x
     → NextTo κ classes W' base0 hi0 r turns' x
 next_more h (NextTo.goes g e t) = NextTo.goes g e (omega arith)
 next_more h (NextTo.ends e v) = NextTo.ends e v
 next_more h (NextTo.fails e t) = NextTo.fails e t
 
-module _ {W W1 : List ℕ} {w : Walk} {base0 : ℕ} (g : CanAdvance W w base0) (r : Turn) (turned : Turned W w r W1) where
+module _ {W W1 : List ℕ} {w : Walk} {base0 : ℕ} (g : CanAdvance W w base0) (r : Returned Turn Failure) (turned : Turned W w r W1) where
   turned-to : TurnTo g.κ W1 (w.list.owner ∷ g.going.X) g.going.lo g.going.hi w g.s g.rest r
   turned-to = unfold advance-can-turn in turned.to (advance-can-turn g)
 
@@ -97,35 +98,35 @@ abbrev Turns-of : {W : List ℕ} {w : Walk} {base0 : ℕ} → CanAdvance W w bas
 Turns-of g = turns_left g.κ g.s g.rest + turns_below g.κ g.S
 
 module _ {W W1 : List ℕ} {w : Walk} {base0 : ℕ} (g : CanAdvance W w base0) where
-  next-on : (w' : Walk) → Turned W w (On w') W1 → NextTo g.κ g.classes W1 base0 g.hi0 (Result-of g) (Turns-of g) (Onward w')
-  next-on w' turned = go (turned-to g (On w') turned)
+  next-on : (w' : Walk) → Turned W w (Ok (On w')) W1 → NextTo g.κ g.classes W1 base0 g.hi0 (Result-of g) (Turns-of g) (Ok (Onward w'))
+  next-on w' turned = go (turned-to g (Ok (On w')) turned)
     where
-      go : TurnTo g.κ W1 (w.list.owner ∷ g.going.X) g.going.lo g.going.hi w g.s g.rest (On w')
-          → NextTo g.κ g.classes W1 base0 g.hi0 (Result-of g) (Turns-of g) (Onward w')
+      go : TurnTo g.κ W1 (w.list.owner ∷ g.going.X) g.going.lo g.going.hi w g.s g.rest (Ok (On w'))
+          → NextTo g.κ g.classes W1 base0 g.hi0 (Result-of g) (Turns-of g) (Ok (Onward w'))
       go (goes l v e few less falls) =
           let room = g.going.room in
-          let long = (turned-within g (On w') turned).long in
-          NextTo.goes (going_on g (On w') turned l v e (omega (arith, l.base, l.len))) (ap (unwound g.κ g.S) e) (omega arith)
+          let long = (turned-within g (Ok (On w')) turned).long in
+          NextTo.goes (going_on g (Ok (On w')) turned l v e (omega (arith, l.base, l.len))) (ap (unwound g.κ g.S) e) (omega arith)
 
-  next-fail : (f : Failure) → Turned W w (Fail f) W1 → NextTo g.κ g.classes W1 base0 g.hi0 (Result-of g) (Turns-of g) (Stopped f)
-  next-fail f turned = go (turned-to g (Fail f) turned)
+  next-fail : (f : Failure) → Turned W w (Err f) W1 → NextTo g.κ g.classes W1 base0 g.hi0 (Result-of g) (Turns-of g) (Err f)
+  next-fail f turned = go (turned-to g (Err f) turned)
     where
-      go : TurnTo g.κ W1 (w.list.owner ∷ g.going.X) g.going.lo g.going.hi w g.s g.rest (Fail f)
-          → NextTo g.κ g.classes W1 base0 g.hi0 (Result-of g) (Turns-of g) (Stopped f)
+      go : TurnTo g.κ W1 (w.list.owner ∷ g.going.X) g.going.lo g.going.hi w g.s g.rest (Err f)
+          → NextTo g.κ g.classes W1 base0 g.hi0 (Result-of g) (Turns-of g) (Err f)
       go (fails {ms = ms} t e) = NextTo.fails (ap (unwound g.κ g.S) e ∙ unwound-fail g.κ g.S ms) t
 
   -- ---- an item is entered
 
-  module _ (w' : Walk) (item : ℕ) (turned : Turned W w (Enter w' item) W1) where
+  module _ (w' : Walk) (item : ℕ) (turned : Turned W w (Ok (Enter w' item)) W1) where
     Entering : Type 0
-    Entering = TurnTo g.κ W1 (w.list.owner ∷ g.going.X) g.going.lo g.going.hi w g.s g.rest (Enter w' item)
+    Entering = TurnTo g.κ W1 (w.list.owner ∷ g.going.X) g.going.lo g.going.hi w g.s g.rest (Ok (Enter w' item))
 
     descends : Entering → CanDescend W1 w' item
     unfolding Entering
     descends
         (enters {l = l} {n = n} {m = m} {t = t} {u = u} {rest' = rest'} {k = k} {cs = cs} same v tree some bg e few near less waiting) =
         let room = g.going.room in
-        let long = (turned-within g (Enter w' item) turned).long in
+        let long = (turned-within g (Ok (Enter w' item)) turned).long in
         let owner = sym same.owner in
         let counts = count-size rest' in
         record {
@@ -145,7 +146,7 @@ module _ {W W1 : List ℕ} {w : Walk} {base0 : ℕ} (g : CanAdvance W w base0) w
           k = k;
           cs = cs;
           rest = rest';
-          stack = stack_of g (Enter w' item) turned same;
+          stack = stack_of g (Ok (Enter w' item)) turned same;
           waiting = subst (λ (x : ℕ). Waits g.κ W1 (x ∷ g.going.X) g.going.lo l m g.going.hi w' t rest') owner v;
           same = same.classes ∙ g.going.same;
           tree = subst (λ (x : ℕ). RepT W1 (x ∷ g.going.X) item n m k cs) owner tree;
@@ -158,14 +159,14 @@ module _ {W W1 : List ℕ} {w : Walk} {base0 : ℕ} (g : CanAdvance W w base0) w
         }
 
     pub advance-can-descend : CanDescend W1 w' item
-    advance-can-descend = unfold Entering in descends (turned-to g (Enter w' item) turned)
+    advance-can-descend = unfold Entering in descends (turned-to g (Ok (Enter w' item)) turned)
 
     module _ (w2 : Walk) (W2 : List ℕ) (inner : Descended W1 w' item w2 W2) where
-      next-enter : NextTo g.κ g.classes W2 base0 g.hi0 (Result-of g) (Turns-of g) (Onward w2)
+      next-enter : NextTo g.κ g.classes W2 base0 g.hi0 (Result-of g) (Turns-of g) (Ok (Onward w2))
       unfolding Entering descends unwound
-      next-enter = go (turned-to g (Enter w' item) turned)
+      next-enter = go (turned-to g (Ok (Enter w' item)) turned)
         where
-          go : Entering → NextTo g.κ g.classes W2 base0 g.hi0 (Result-of g) (Turns-of g) (Onward w2)
+          go : Entering → NextTo g.κ g.classes W2 base0 g.hi0 (Result-of g) (Turns-of g) (Ok (Onward w2))
           go (enters {t = t} {u = u} {rest' = rest'} {k = k} {cs = cs} same v tree some bg e few near less waiting) =
               let sizes = reading-size g.κ cs in
               NextTo.goes (inner.going (descends (enters same v tree some bg e few near less waiting))) (ap (unwound g.κ g.S) e)
@@ -173,18 +174,18 @@ module _ {W W1 : List ℕ} {w : Walk} {base0 : ℕ} (g : CanAdvance W w base0) w
 
       beyond-enter : Beyond W W2 base0 g.hi0
       unfolding Entering descends
-      beyond-enter = go (turned-to g (Enter w' item) turned)
+      beyond-enter = go (turned-to g (Ok (Enter w' item)) turned)
         where
           go : Entering → Beyond W W2 base0 g.hi0
           go (enters same v tree some bg e few near less waiting) =
-              beyond-then (turned-beyond g (Enter w' item) turned)
+              beyond-then (turned-beyond g (Ok (Enter w' item)) turned)
               (inner.beyond (descends (enters same v tree some bg e few near less waiting)))
 
   -- ---- every item is done
 
-  module _ (w' : Walk) (turned : Turned W w (Over w') W1) where
+  module _ (w' : Walk) (turned : Turned W w (Ok (Over w')) W1) where
     Ending : Type 0
-    Ending = TurnTo g.κ W1 (w.list.owner ∷ g.going.X) g.going.lo g.going.hi w g.s g.rest (Over w')
+    Ending = TurnTo g.κ W1 (w.list.owner ∷ g.going.X) g.going.lo g.going.hi w g.s g.rest (Ok (Over w'))
 
     closes : Ending → CanClose W1 w' base0
     unfolding Ending count size
@@ -196,17 +197,17 @@ module _ {W W1 : List ℕ} {w : Walk} {base0 : ℕ} (g : CanAdvance W w base0) w
           hi0 = g.hi0;
           S = g.S;
           s = s';
-          going = going_on g (Over w') turned same v e (omega arith);
+          going = going_on g (Ok (Over w')) turned same v e (omega arith);
           idle = idle;
         }
 
     pub advance-can-close : CanClose W1 w' base0
-    advance-can-close = unfold Ending in closes (turned-to g (Over w') turned)
+    advance-can-close = unfold Ending in closes (turned-to g (Ok (Over w')) turned)
 
-    module _ (x : Next) (W2 : List ℕ) (closed : Closed W1 w' base0 x W2) where
+    module _ (x : Returned Next Failure) (W2 : List ℕ) (closed : Closed W1 w' base0 x W2) where
       next-close : NextTo g.κ g.classes W2 base0 g.hi0 (Result-of g) (Turns-of g) x
       unfolding Ending closes
-      next-close = go (turned-to g (Over w') turned)
+      next-close = go (turned-to g (Ok (Over w')) turned)
         where
           go : Ending → NextTo g.κ g.classes W2 base0 g.hi0 (Result-of g) (Turns-of g) x
           go (ends {s' = s'} same v idle e) =
@@ -217,27 +218,27 @@ module _ {W W1 : List ℕ} {w : Walk} {base0 : ℕ} (g : CanAdvance W w base0) w
 
       beyond-close : Beyond W W2 base0 g.hi0
       unfolding Ending closes
-      beyond-close = go (turned-to g (Over w') turned)
+      beyond-close = go (turned-to g (Ok (Over w')) turned)
         where
           go : Ending → Beyond W W2 base0 g.hi0
-          go (ends same v idle e) = beyond-then (turned-beyond g (Over w') turned) (closed.beyond (closes (ends same v idle e)))
+          go (ends same v idle e) = beyond-then (turned-beyond g (Ok (Over w')) turned) (closed.beyond (closes (ends same v idle e)))
 
 -- ---- `advance`
 
-pub turned-at : {W W1 : List ℕ} {w : Walk} (r q : Turn) → r ≡ q → Turned W w r W1 → Turned W w q W1
-turned-at {W} {W1} {w} r q e x = subst (λ (y : Turn). Turned W w y W1) e x
+pub turned-at : {W W1 : List ℕ} {w : Walk} (t q : Turn) → t ≡ q → Turned W w (Ok t) W1 → Turned W w (Ok q) W1
+turned-at {W} {W1} {w} t q e x = subst (λ (y : Turn). Turned W w (Ok y) W1) e x
 
-pub advanced-on : {W W1 : List ℕ} {w w' : Walk} {base0 : ℕ} → Turned W w (On w') W1 → Advanced W w base0 (Onward w') W1
-advanced-on {w' = w'} t = record { to = λ g. next-on g w' t; beyond = λ g. turned-beyond g (On w') t }
+pub advanced-on : {W W1 : List ℕ} {w w' : Walk} {base0 : ℕ} → Turned W w (Ok (On w')) W1 → Advanced W w base0 (Ok (Onward w')) W1
+advanced-on {w' = w'} t = record { to = λ g. next-on g w' t; beyond = λ g. turned-beyond g (Ok (On w')) t }
 
-pub advanced-fail : {W W1 : List ℕ} {w : Walk} {base0 : ℕ} {f : Failure} → Turned W w (Fail f) W1 → Advanced W w base0 (Stopped f) W1
-advanced-fail {f = f} t = record { to = λ g. next-fail g f t; beyond = λ g. turned-beyond g (Fail f) t }
+pub advanced-fail : {W W1 : List ℕ} {w : Walk} {base0 : ℕ} {f : Failure} → Turned W w (Err f) W1 → Advanced W w base0 (Err f) W1
+advanced-fail {f = f} t = record { to = λ g. next-fail g f t; beyond = λ g. turned-beyond g (Err f) t }
 
-pub advanced-enter : {W W1 W2 : List ℕ} {w w' w2 : Walk} {base0 item : ℕ} → Turned W w (Enter w' item) W1 → Descended W1 w' item w2 W2
-    → Advanced W w base0 (Onward w2) W2
+pub advanced-enter : {W W1 W2 : List ℕ} {w w' w2 : Walk} {base0 item : ℕ} → Turned W w (Ok (Enter w' item)) W1 → Descended W1 w' item w2 W2
+    → Advanced W w base0 (Ok (Onward w2)) W2
 advanced-enter {W2 = W2} {w' = w'} {w2 = w2} {item = item} t d =
     record { to = λ g. next-enter g w' item t w2 W2 d; beyond = λ g. beyond-enter g w' item t w2 W2 d }
 
-pub advanced-close : {W W1 W2 : List ℕ} {w w' : Walk} {base0 : ℕ} {x : Next} → Turned W w (Over w') W1 → Closed W1 w' base0 x W2
+pub advanced-close : {W W1 W2 : List ℕ} {w w' : Walk} {base0 : ℕ} {x : Returned Next Failure} → Turned W w (Ok (Over w')) W1 → Closed W1 w' base0 x W2
     → Advanced W w base0 x W2
 advanced-close {W2 = W2} {w' = w'} {x = x} t d = record { to = λ g. next-close g w' t x W2 d; beyond = λ g. beyond-close g w' t x W2 d }

@@ -14,13 +14,13 @@ use Rattle.nodes.specs.{Frames.{FrameAt, CanPop}, declared.frames.List.{List as 
 use Rattle.nodes.proofs.{Runs.{off-word}, Trees.{array-give, array_owned, owned-tree}, Keeping.{free_own, free-inner, give_kept}}
 use Rattle.levels.specs.Passes.{walk_of, classes_of, held_of, resumed_with, Runs, call, math_call, unsplit_pass, split, array, unary, level}
 use Rattle.levels.specs.{Passes.{conditional_pass, return_pass, waits}, Sides.{Holds}}
-use Rattle.levels.specs.Turns.{Within, lent_of, CanResume, Resumed, CanFinish, FinishTo, gives, fails, Ends}
+use Rattle.levels.specs.Turns.{Within, lent_of, CanResume, Resumed, CanFinish, FinishTo, gives, fails, ended_at, Ends}
 use Rattle.levels.specs.{declared.failure.Failure.{Failure}, declared.turns.Pass.{Pass}, declared.turns.Pass.TheVariants.{Arrays, Binary}}
 use Rattle.levels.specs.{declared.turns.Walk.{Walk}, declared.turns.Finished.{Finished}}
-use Rattle.levels.specs.declared.turns.Finished.TheVariants.{At, Fail as Failed}
+use Rattle.std.specs.Prelude.{Result as Returned, Ok, Err}
 use Rattle.levels.proofs.States.{split-none, split-some}
 use Rattle.grouping.specs.Driver.{FrameOf, Stack, bottom, over, Full, Going, turns_below, Beyond, CanMove, Moved, NextTo, CanClose}
-use Rattle.grouping.specs.{Driver.{Closed}, declared.driver.Next.TheVariants.{On, Done, Fail}}
+use Rattle.grouping.specs.{Driver.{Closed}, declared.driver.Next.TheVariants.{On, Done}}
 use Rattle.grouping.proofs.StackLaws.{Bounds, stack-bounds, stack-keep, top-beyond, beyond-then}
 use Rattle.grouping.proofs.OutermostLaws.{give-outermost, move-outermost}
 
@@ -81,16 +81,16 @@ pub record Gives (κ : Kind) (W' X : List ℕ) (lo hi : ℕ) (v : Items) (s : St
   pub low : v.base ≤ from
   pub high : from + n ≤ v.base + v.len
 
-given : {κ : Kind} {W' X : List ℕ} {lo hi : ℕ} {v : Items} {s : State κ} {from n : ℕ} → FinishTo κ W' X lo hi v s (At from n)
+given : {κ : Kind} {W' X : List ℕ} {lo hi : ℕ} {v : Items} {s : State κ} {from n : ℕ} → FinishTo κ W' X lo hi v s (Ok (ended_at from n))
     → Gives κ W' X lo hi v s from n
 given (gives {f = f} e a l h) = record { f = f; result = e; array = a; low = l; high = h }
 
 failed-next : {κ : Kind} {classes : ℕ} {W' X : List ℕ} {lo hi base0 hi0 : ℕ} {v : Items} {s : State κ} {f : Failure} (S : List (Held κ))
     (turns : ℕ)
-    → FinishTo κ W' X lo hi v s (Failed f) → NextTo κ classes W' base0 hi0 (unwound κ S (work κ s nil)) turns (Fail f)
+    → FinishTo κ W' X lo hi v s (Err f) → NextTo κ classes W' base0 hi0 (unwound κ S (work κ s nil)) turns (Err f)
 failed-next {κ} S turns (fails {ms = ms} t e) = NextTo.fails (ap (unwound κ S) e ∙ unwound-fail κ S ms) t
 
-module _ {W W1 : List ℕ} {w : Walk} {base0 : ℕ} (r : Finished) (ended : Ends W w r W1) where
+module _ {W W1 : List ℕ} {w : Walk} {base0 : ℕ} (r : Returned Finished Failure) (ended : Ends W w r W1) where
   finished-beyond : (g : CanClose W w base0) → Beyond W W1 base0 g.hi0
   unfolding close-can-finish
   finished-beyond g =
@@ -101,14 +101,14 @@ module _ {W W1 : List ℕ} {w : Walk} {base0 : ℕ} (r : Finished) (ended : Ends
       (inl y))
       within.long
 
-  pub closed-failed : (f : Failure) → r ≡ Failed f → Closed W w base0 (Fail f) W1
+  pub closed-failed : (f : Failure) → r ≡ Err f → Closed W w base0 (Err f) W1
   unfolding close-can-finish
   closed-failed f e =
       record {
         to =
             λ g.
             failed-next g.S _
-            (subst (λ (x : Finished). FinishTo g.κ W1 (w.list.owner ∷ g.going.X) g.going.lo g.going.hi w.list g.s x) e
+            (subst (λ (x : Returned Finished Failure). FinishTo g.κ W1 (w.list.owner ∷ g.going.X) g.going.lo g.going.hi w.list g.s x) e
             (ended.to (close-can-finish g)));
         beyond = finished-beyond;
       }
@@ -163,12 +163,12 @@ outermost : {κ : Kind} {classes : ℕ} {W W1 W2 W3 : List ℕ} {base0 hi0 : ℕ
     {f : Forest} {r : Result} (turns : ℕ)
     → 0 < hi0 → base ≡ base0 → r ≡ ok f → Stack κ classes W base0 hi0 X owner lo hi base S → InArray W1 (owner ∷ X) from n lo hi f
     → Given W1 owner from n W2 → Moved W2 from n base W3
-    → slot_start hi ≤ base → base ≤ from → NextTo κ classes W3 base0 hi0 (unwound κ S r) turns (Done n)
+    → slot_start hi ≤ base → base ≤ from → NextTo κ classes W3 base0 hi0 (unwound κ S r) turns (Ok (Done n))
 unfolding unwound
 outermost turns h e q bottom v gv mv below down = NextTo.ends q (move-outermost mv (give-outermost gv v h (omega arith)) h below)
 outermost turns h e q (over s f) v gv mv below down = absurd (omega (arith, (stack-bounds h s).based))
 
-module _ {W W1 : List ℕ} {w : Walk} {base0 from n : ℕ} (g : CanClose W w base0) (ended : Ends W w (At from n) W1) where
+module _ {W W1 : List ℕ} {w : Walk} {base0 from n : ℕ} (g : CanClose W w base0) (ended : Ends W w (Ok (ended_at from n)) W1) where
   pub gave : Gives g.κ W1 (w.list.owner ∷ g.going.X) g.going.lo g.going.hi w.list g.s from n
   gave = unfold close-can-finish in given (ended.to (close-can-finish g))
 
@@ -223,7 +223,7 @@ module _ {W W1 : List ℕ} {w : Walk} {base0 from n : ℕ} (g : CanClose W w bas
     module _ {W3 : List ℕ} (mv : Moved W2 from n w.list.base W3) where
       next-done : w.list.base ≡ base0
           → NextTo g.κ g.classes W3 base0 g.hi0 (unwound g.κ g.S (work g.κ g.s nil)) (turns_below g.κ g.S)
-          (Done n)
+          (Ok (Done n))
       next-done e =
           outermost (turns_below g.κ g.S) g.going.some e gave.result stack2 gave.array gv mv g.going.holds.sides.below
           gave.low
@@ -378,7 +378,7 @@ module _ {W W1 : List ℕ} {w : Walk} {base0 from n : ℕ} (g : CanClose W w bas
               }
 
           next-on : NextTo g.κ g.classes W3 base0 g.hi0 (unwound g.κ g.S (work g.κ g.s nil)) (turns_below g.κ g.S)
-              (On w3)
+              (Ok (On w3))
           next-on =
               let few = takes-waits g.κ top.t top.k gave.f in
               let all = ap (turns_below g.κ) top.lists in
@@ -389,18 +389,18 @@ module _ {W W1 : List ℕ} {w : Walk} {base0 from n : ℕ} (g : CanClose W w bas
 
 -- ---- `close`
 
-pub ended_at : {W W1 : List ℕ} {w : Walk} (r q : Finished) → r ≡ q → Ends W w r W1 → Ends W w q W1
-ended_at {W} {W1} {w} r q e x = subst (λ (y : Finished). Ends W w y W1) e x
+pub ended-ok : {W W1 : List ℕ} {w : Walk} (q : Finished) → Ends W w (Ok q) W1 → Ends W w (Ok (ended_at q.from q.items)) W1
+ended-ok q x = x
 
-pub closed-done : {W W1 W2 W3 : List ℕ} {w : Walk} {base0 from n : ℕ} → Ends W w (At from n) W1 → Given W1 w.list.owner from n W2
+pub closed-done : {W W1 W2 W3 : List ℕ} {w : Walk} {base0 from n : ℕ} → Ends W w (Ok (ended_at from n)) W1 → Given W1 w.list.owner from n W2
     → Moved W2 from n w.list.base W3 → w.list.base ≡ base0
-    → Closed W w base0 (Done n) W3
+    → Closed W w base0 (Ok (Done n)) W3
 closed-done ended gv mv e = record { to = λ g. next-done g ended gv mv e; beyond = λ g. done-beyond g ended gv mv e }
 
-pub closed_on : {W W1 W2 W3 : List ℕ} {w w3 : Walk} {base0 from n : ℕ} → Ends W w (At from n) W1 → Given W1 w.list.owner from n W2
+pub closed_on : {W W1 W2 W3 : List ℕ} {w w3 : Walk} {base0 from n : ℕ} → Ends W w (Ok (ended_at from n)) W1 → Given W1 w.list.owner from n W2
     → w.list.base ≢ base0 → (fr : Frame) (p : Pass)
     → FrameAt W2 (w.list.base - 6) fr.list fr.held → p ≡ resumed_with w.pass fr.held
     → Resumed W2 (walk_of fr.list p) w.list.owner w3 W3
-    → Closed W w base0 (On w3) W3
+    → Closed W w base0 (Ok (On w3)) W3
 closed_on ended gv inner fr p words ep back =
     record { to = λ g. next-on g ended gv inner fr p words ep back; beyond = λ g. beyond3 g ended gv inner fr p words ep back }

@@ -12,9 +12,10 @@ use Rattle.nodes.specs.{Store.{InArray}, declared.frames.List.{List as Items}}
 use Rattle.nodes.proofs.{Store.{back-raise, rep-lower}, Trees.{gathered-array}}
 use Rattle.levels.specs.{Passes.{walk_of, Runs, call, math_call, unsplit_pass, array, unary, level, return_pass, waits}, Items.{BackArray}}
 use Rattle.levels.specs.Sides.{GatherSide, LevelSide, StatementSide, ArraySide, RightSide, DoneSide, AtTurn}
-use Rattle.levels.specs.{Turns.{CanFinish, FinishTo, gives, Ends}, declared.turns.Pass.{Pass}}
+use Rattle.levels.specs.{Turns.{CanFinish, FinishTo, gives, ended_at, Ends}, declared.turns.Pass.{Pass}}
 use Rattle.levels.specs.declared.turns.Pass.TheVariants.{Calls, MathCalls, Unsplit, Split, Arrays, Unary, Binary, Conditional, Returns}
-use Rattle.levels.specs.{declared.turns.Finished.{Finished}, declared.turns.Finished.TheVariants.{At}}
+use Rattle.levels.specs.{declared.turns.Finished.{Finished}, declared.failure.Failure.{Failure}}
+use Rattle.std.specs.Prelude.{Result, Ok}
 use Rattle.levels.proofs.{Reading.{same-within}}
 use Rattle.levels.specs.contracts.turns.Pass.{the_type}
 use Rattle.grouping.proofs.StackLaws.{holds-within}
@@ -37,7 +38,7 @@ module _ (W X : List ℕ) (lo l m hi : ℕ) (v : Items) (high : l ≤ hi) (writt
 
   finish-gathered : (κ : Kind) (p : Pass) (s : State κ) → Runs κ p → Gathering p → DoneSide κ W X lo l m hi (walk_of v p) s → AtTurn v p
       → waits κ s ≡ 0
-      → FinishTo κ W X lo hi v s (At v.base v.write)
+      → FinishTo κ W X lo hi v s (Ok (ended_at v.base v.write))
   unfolding work walk call_level call_finish return_level return_finish binary_level binary_finish statement_level statement_finish array_level
       array_finish flushed waits
   finish-gathered _ _ s (Rattle.levels.specs.Passes.split {done = done}) g _ t e = elim g [ ]
@@ -53,7 +54,7 @@ module _ (W X : List ℕ) (lo l m hi : ℕ) (v : Items) (high : l ≤ hi) (writt
   finish-gathered κ p s (level h) g (LevelSide.operator c b n u o) t e = absurd (omega (arith, t.0, o.pos))
   finish-gathered κ p s return_pass g (GatherSide.all {d = d} b) t e = gives refl (gathered-in-order d b) (le_refl v.base) (omega arith)
 
-pub gathered-ends : (W : List ℕ) (v : Items) (p : Pass) → Gathering p → Ends W (walk_of v p) (At v.base v.write) W
+pub gathered-ends : (W : List ℕ) (v : Items) (p : Pass) → Gathering p → Ends W (walk_of v p) (Ok (ended_at v.base v.write)) W
 gathered-ends W v p gathering =
     record {
       to = λ g.
@@ -69,7 +70,7 @@ gathered-ends W v p gathering =
 -- from the right the done trees stand at the list's end
 finish-right : (W X : List ℕ) (lo l m hi : ℕ) (v : Items) (κ : Kind) (s : State κ) → lo ≤ m → Runs κ Unary
     → DoneSide κ W X lo l m hi (walk_of v Unary) s
-    → FinishTo κ W X lo hi v s (At (v.base + v.write) (v.len - v.write))
+    → FinishTo κ W X lo hi v s (Ok (ended_at (v.base + v.write) (v.len - v.write)))
 unfolding work from_right
 finish-right W X lo l m hi v κ s low unary (RightSide.all {d = d} {n = n} e b) =
     let n' : n ≡ v.len - v.write = omega arith in
@@ -77,7 +78,7 @@ finish-right W X lo l m hi v κ s low unary (RightSide.all {d = d} {n = n} e b) 
     record { bs = b.bs; seg = b.seg; count = b.count; rep = rep-lower low b.rep } in
     gives refl (subst (λ (x : ℕ). InArray W X (v.base + v.write) x lo hi d) n' b') (omega arith) (omega arith)
 
-pub right-ends : (W : List ℕ) (v : Items) → Ends W (walk_of v Unary) (At (v.base + v.write) (v.len - v.write)) W
+pub right-ends : (W : List ℕ) (v : Items) → Ends W (walk_of v Unary) (Ok (ended_at (v.base + v.write) (v.len - v.write))) W
 right-ends W v =
     record {
       to = λ g.
@@ -97,7 +98,7 @@ finish-within v p g = ((holds-within g.holds).0, g.holds.sides.within, g.small)
 pub finish-at : {W : List ℕ} (v : Items) (p q : Pass) → p ≡ q → CanFinish W (walk_of v p) → CanFinish W (walk_of v q)
 finish-at {W} v p q e g = subst (λ (x : Pass). CanFinish W (walk_of v x)) e g
 
-pub ends_by : {W W' : List ℕ} {r : Finished} (v : Items) (p q : Pass) → p ≡ q → Ends W (walk_of v q) r W' → Ends W (walk_of v p) r W'
+pub ends_by : {W W' : List ℕ} {r : Result Finished Failure} (v : Items) (p q : Pass) → p ≡ q → Ends W (walk_of v q) r W' → Ends W (walk_of v p) r W'
 ends_by {W} {W'} {r} v p q e x = subst (λ (y : Pass). Ends W (walk_of v y) r W') (sym e) x
 
 pub gathering-at : (p : Pass) → OneOf (0 ∷ 1 ∷ 2 ∷ 4 ∷ 6 ∷ 8 ∷ []) (tag_of the_type p) → Gathering p

@@ -6,8 +6,6 @@ use mathlib.Core.Option.{Option, none, some}
 use native.Mathlib.{Omega.{arith}, Nat.{le_refl}}
 use lib.{Dec.{eqb}, ListN.{length}}
 use borrow.Author.Tests.{eq-eqb, ne_eqb}
-use denote.Enum.Declared.{tag_of}
-use types.Run.{OneOf, miss}
 use Rattle.molang.specs.Operator
 use Rattle.molang.specs.{Forest.{Token, Forest, nil, leaves, count}, Message.{Message, complex_must_end_with_semicolon, Result, ok, fail}}
 use Rattle.molang.specs.Sections.{members, outside, sections}
@@ -18,16 +16,17 @@ use Rattle.molang.proofs.Bounds.{leaves-weight}
 use Rattle.ops.specs.declared.sets.OpSet.{OpSet}
 use Rattle.nodes.specs.{Store.{wd, TokenAt, Seg, RepF, ends, more}, Slots.{op_at}}
 use Rattle.nodes.proofs.{Store.{reserve-pos, rep-count}, Tokens.{token-op}}
-use Rattle.grouping.specs.{Grouped.{tells, not_ended, without_tokens, StandsFor}, declared.grouped.Grouped.TheVariants.{Failed}}
+use Rattle.std.specs.Prelude.{Result as Returned, Ok, Err}
+use Rattle.grouping.specs.Grouped.{tells, not_ended, without_tokens, StandsFor}
+use Rattle.levels.specs.{declared.failure.Failure.{Failure}, declared.failure.Fault.{Fault}, declared.failure.Fault.TheVariants.{Failed}}
 use Rattle.grouping.specs.Group.{CanGroup, FlatTo, if_run, EndsTo, ended, unended, EndsRight, JoinedIf, SectionedIf, Flattened}
 use Rattle.grouping.specs.Grouped as stands
 use Rattle.levels.specs.declared.failure.Failure.TheVariants.{ComplexMustEndWithSemicolon, ComplexWithoutTokens}
 use Rattle.levels.proofs.Reading.{when_true, when_false}
 use Rattle.order.{specs.Ranks.{used_by}, proofs.Folding.{failed as failing, next, run-first, skip_first}}
-use Rattle.sections.specs.Flat.{FlatTells, failed, mismatched, unclosed, Answers, CanJoin, Joined, CanSection}
-use Rattle.sections.specs.{declared.Flat.{Flat as Left}, declared.Flat.TheVariants.{Done, Fail, Mismatched, Unclosed as Unclosing}}
+use Rattle.sections.specs.Flat.{FlatTells, failed, mismatched, unclosed, Fails, Answers, CanJoin, Joined, CanSection}
+use Rattle.levels.specs.Failures.{Tells}
 use Rattle.sections.proofs.{SectionCases.{found}}
-use Rattle.sections.specs.contracts.Flat.{the_type}
 use Rattle.sections.specs.Flat as pass
 
 -- ---- one pass of the reading
@@ -122,11 +121,11 @@ unfolding ends_with_semicolon
 ends-other l f k e h = found (last_of none f) k _ _ e ∙ when_false (eqb k.op Operator.semicolon) _ _ (ne_eqb k.op Operator.semicolon h)
 
 module _ {W : List ℕ} {base n : ℕ} {used : OpSet} where
-  pub last-unused : runs (used_by used) last_token ≡ false → EndsRight W base n used (Done n)
+  pub last-unused : runs (used_by used) last_token ≡ false → EndsRight W base n used (Ok tt)
   last-unused e = record { to = λ g l. ended (if-skipped (runs (used_by used) last_token) (ends_with_semicolon l) (leaves g.tokens) e) }
 
   module _ (e : runs (used_by used) last_token ≡ true) where
-    pub last-missing : n ≡ 0 → EndsRight W base n used (Fail ComplexWithoutTokens)
+    pub last-missing : n ≡ 0 → EndsRight W base n used (Err ComplexWithoutTokens)
     last-missing missing =
         record {
           to = λ g l.
@@ -134,7 +133,7 @@ module _ {W : List ℕ} {base n : ℕ} {used : OpSet} where
               ∙ ends-empty l g.tokens (omega (arith, token-count g))) without_tokens;
         }
 
-    pub last-semicolon : n ≢ 0 → op_at W (wd W (base + n - 1)) ≡ Operator.semicolon → EndsRight W base n used (Done n)
+    pub last-semicolon : n ≢ 0 → op_at W (wd W (base + n - 1)) ≡ Operator.semicolon → EndsRight W base n used (Ok tt)
     last-semicolon there h =
         record {
           to = λ g l.
@@ -144,7 +143,7 @@ module _ {W : List ℕ} {base n : ℕ} {used : OpSet} where
         }
 
     pub last-other : n ≢ 0 → op_at W (wd W (base + n - 1)) ≢ Operator.semicolon
-        → EndsRight W base n used (Fail (ComplexMustEndWithSemicolon (wd W (base + n - 1))))
+        → EndsRight W base n used (Err (ComplexMustEndWithSemicolon (wd W (base + n - 1))))
     last-other there h =
         record {
           to = λ g l.
@@ -155,18 +154,18 @@ module _ {W : List ℕ} {base n : ℕ} {used : OpSet} where
 
 -- ---- members and sections, where they run
 
-pub joined-used : {W W' : List ℕ} {base n : ℕ} {used : OpSet} {r : Left} → runs (used_by used) member_accessors ≡ true → Joined W base n r W'
+pub joined-used : {W W' : List ℕ} {base n : ℕ} {used : OpSet} {r : Returned ℕ Failure} → runs (used_by used) member_accessors ≡ true → Joined W base n r W'
     → JoinedIf W base n used r W'
 joined-used {W} {W'} {base} {n} {used} {r} e w =
     record {
       answer = λ g.
-          subst (λ (x : Result). Answers W' g.X base g.lo g.hi n x r)
+          subst (λ (x : Result). Answers (Tells W') W' g.X base g.lo g.hi n x r)
           (sym (if-run (runs (used_by used) member_accessors) (members nil) (leaves g.ks) e)) (w.answer g);
       long = w.long;
     }
 
 pub joined-unused : {W : List ℕ} {base n : ℕ} {used : OpSet} → runs (used_by used) member_accessors ≡ false
-    → JoinedIf W base n used (Done n) W
+    → JoinedIf W base n used (Ok n) W
 joined-unused {n = n} {used = used} e =
     record {
       answer = λ g.
@@ -179,19 +178,19 @@ joined-unused {n = n} {used = used} e =
       long = refl;
     }
 
-pub sectioned-used : {W W' : List ℕ} {base n : ℕ} {used : OpSet} {r : Left} → runs (used_by used) sectioning ≡ true
+pub sectioned-used : {W W' : List ℕ} {base n : ℕ} {used : OpSet} {r : Returned ℕ Fault} → runs (used_by used) sectioning ≡ true
     → pass.Sectioned W base n r W'
     → SectionedIf W base n used r W'
 sectioned-used {W} {W'} {base} {n} {used} {r} e w =
     record {
       answer = λ g.
-          subst (λ (x : Result). Answers W' g.X base g.lo g.hi n x r)
+          subst (λ (x : Result). Answers (FlatTells W') W' g.X base g.lo g.hi n x r)
           (sym (if-run (runs (used_by used) sectioning) (sections 0 (outside nil)) g.f e)) (w.answer g);
       long = w.long;
     }
 
 pub sectioned-unused : {W : List ℕ} {base n : ℕ} {used : OpSet} → runs (used_by used) sectioning ≡ false
-    → SectionedIf W base n used (Done n) W
+    → SectionedIf W base n used (Ok n) W
 sectioned-unused {n = n} {used = used} e =
     record {
       answer = λ g.
@@ -241,7 +240,7 @@ group-joins {n = n} g =
       room = omega (arith, g.based, g.room);
     }
 
-abbrev pub group-sections : {W W' : List ℕ} {base n m : ℕ} {used : OpSet} → CanGroup W base n → JoinedIf W base n used (Done m) W'
+abbrev pub group-sections : {W W' : List ℕ} {base n m : ℕ} {used : OpSet} → CanGroup W base n → JoinedIf W base n used (Ok m) W'
     → CanSection W' base m
 group-sections {n = n} {used = used} g w =
     let a = w.answer (group-joins g) in
@@ -257,89 +256,61 @@ group-sections {n = n} {used = used} g w =
       small = omega (arith, g.few, a.fewer);
     }
 
--- the result is no list
-abbrev pub Fallen : Left → Type 0
-Fallen (Done m) = ⊥
-Fallen (Fail f) = Unit {0}
-Fallen (Mismatched m) = Unit {0}
-Fallen (Unclosing u) = Unit {0}
-
--- what the arms of a `match` say, of a list and of the others
-pub fallen : (r : Left) → OneOf (1 ∷ 2 ∷ 3 ∷ []) (tag_of the_type r) → Fallen r
-fallen (Done m) h = miss (1 ∷ 2 ∷ 3 ∷ []) 0 tt h
-fallen (Fail f) h = tt
-fallen (Mismatched m) h = tt
-fallen (Unclosing u) h = tt
-
-ended_is : {W : List ℕ} {l : ℕ} {x : Result} {f : Forest} (r : Left) → OneOf (0 ∷ []) (tag_of the_type r) → EndsTo W l x f r → x ≡ ok f
-ended_is (Done m) h (ended e) = e
-ended_is (Fail q) h v = absurd (miss (0 ∷ []) 1 tt h)
-ended_is (Mismatched q) h v = absurd (miss (0 ∷ []) 2 tt h)
-ended_is (Unclosing q) h v = absurd (miss (0 ∷ []) 3 tt h)
-
-pub joined_items : {W W' : List ℕ} {base n m : ℕ} {used : OpSet} (r : Left) → r ≡ Done m → JoinedIf W base n used r W'
-    → JoinedIf W base n used (Done m) W'
-joined_items {W} {W'} {base} {n} {used = used} r e w = subst (λ (x : Left). JoinedIf W base n used x W') e w
+ended_is : {W : List ℕ} {l : ℕ} {x : Result} {f : Forest} → EndsTo W l x f (Ok tt) → x ≡ ok f
+ended_is (ended e) = e
 
 -- the messages of a failed flat pass are the answer of the reading
 module _ (W : List ℕ) (base n l : ℕ) (u : ℕ → Bool) (ps : List Pass) where
-  told-to : {r : Left} {ms : List Message} → FlatTells W r ms → FlatTo W base n l u ps (messages ms) r
+  told-to : {fault : Fault} {ms : List Message} → FlatTells W fault ms → FlatTo W base n l u ps (messages ms) (Err fault)
   told-to (failed t) = stands.failed (tells t)
   told-to (mismatched t) = stands.mismatched t
   told-to (unclosed t) = stands.unclosed t
 
-  fails-to : {answer : Answer} (r : Left) → Fallen r → (x : Result) → ((ms : List Message) → x ≡ fail ms → answer ≡ messages ms) → (m : ℕ)
-      → Answers W (0 ∷ []) base 3 (3 * n + 3) m x r → FlatTo W base n l u ps answer r
-  fails-to {answer = answer} (Done _) d x h m v = elim d [ ]
-  fails-to (Fail f) d x h m v =
-      subst (λ (a : Answer). FlatTo W base n l u ps a (Fail f)) (sym (h v.messages v.is)) (told-to v.told)
-  fails-to (Mismatched f) d x h m v =
-      subst (λ (a : Answer). FlatTo W base n l u ps a (Mismatched f)) (sym (h v.messages v.is)) (told-to v.told)
-  fails-to (Unclosing f) d x h m v =
-      subst (λ (a : Answer). FlatTo W base n l u ps a (Unclosing f)) (sym (h v.messages v.is)) (told-to v.told)
+  fails-to : {answer : Answer} (fault : Fault) (x : Result) → ((ms : List Message) → x ≡ fail ms → answer ≡ messages ms)
+      → Fails (FlatTells W) x fault → FlatTo W base n l u ps answer (Err fault)
+  fails-to fault x h v =
+      subst (λ (a : Answer). FlatTo W base n l u ps a (Err fault)) (sym (h v.messages v.is)) (told-to v.told)
 
 module _ {W : List ℕ} {base n : ℕ} {used : OpSet} where
   -- the last token is wrong
-  pub flat-unended : (r : Left) → Fallen r → EndsRight W base n used r → Flattened W base n used r W
+  pub flat-unended : (f : Failure) → EndsRight W base n used (Err f) → Flattened W base n used (Err (Failed f)) W
   unfolding apply ends_reading
-  flat-unended r d w = record { to = λ g l ps. go g l ps r d (w.to g l); long = refl }
+  flat-unended f w = record { to = λ g l ps. go g l ps (w.to g l); long = refl }
     where
-      go : (g : CanGroup W base n) (l : ℕ) (ps : List Pass) (r : Left) → Fallen r
-          → EndsTo W l (if_run (runs (used_by used) last_token) (ends_with_semicolon l) (leaves g.tokens)) (leaves g.tokens) r
+      go : (g : CanGroup W base n) (l : ℕ) (ps : List Pass)
+          → EndsTo W l (if_run (runs (used_by used) last_token) (ends_with_semicolon l) (leaves g.tokens)) (leaves g.tokens) (Err f)
           → FlatTo W base n l (used_by used) ps (grouped l (used_by used)
-          (last_token ∷ member_accessors ∷ sectioning ∷ ps) [] (leaves g.tokens)) r
-      go g l ps (Mismatched _) d v = elim v [ ]
-      go g l ps (Unclosing _) d v = elim v [ ]
-      go g l ps (Done m) d v = absurd d
-      go g l ps (Fail q) d (unended {ms = ms} e s) =
-          subst (λ (a : Answer). StandsFor W (3 * n + 3) n l (Failed q) a)
+          (last_token ∷ member_accessors ∷ sectioning ∷ ps) [] (leaves g.tokens)) (Err (Failed f))
+      go g l ps (unended {ms = ms} e s) =
+          subst (λ (a : Answer). StandsFor W (3 * n + 3) n l (Err (Failed f)) a)
           (sym (read_out l (used_by used) last_token (member_accessors ∷ sectioning ∷ ps) (leaves g.tokens)
           (ends_with_semicolon l) refl ms refl e))
           (stands.failed s)
 
-  module _ (first : Left) (there : OneOf (0 ∷ []) (tag_of the_type first)) (w : EndsRight W base n used first) where
+  module _ (w : EndsRight W base n used (Ok tt)) where
     -- the last token is right, and the reading goes on with the members
     first_on : (g : CanGroup W base n) (l : ℕ) (ps : List Pass)
         → grouped l (used_by used) (last_token ∷ ps) [] (leaves g.tokens) ≡ grouped l (used_by used) ps [] (leaves g.tokens)
     unfolding apply
     first_on g l ps =
         read-on l (used_by used) last_token ps (leaves g.tokens) (ends_with_semicolon l) refl (leaves g.tokens)
-        (ended_is first there (w.to g l))
+        (ended_is (w.to g l))
 
     -- a member accessor leads
-    pub flat-unjoined : {W' : List ℕ} (r : Left) → Fallen r → JoinedIf W base n used r W' → Flattened W base n used r W'
+    pub flat-unjoined : {W' : List ℕ} (f : Failure) → JoinedIf W base n used (Err f) W' → Flattened W base n used (Err (Failed f)) W'
     unfolding apply ends_reading
-    flat-unjoined {W'} r d v =
+    flat-unjoined {W'} f v =
         record {
           to = λ g l ps.
-              fails-to W' base n l (used_by used) ps r d (if_run (runs (used_by used) member_accessors) (members nil) (leaves g.tokens))
+              let a = v.answer (group-joins g) in
+              fails-to W' base n l (used_by used) ps (Failed f) (if_run (runs (used_by used) member_accessors) (members nil) (leaves g.tokens))
               (λ ms e. first_on g l (member_accessors ∷ sectioning ∷ ps)
-              ∙ read_out l (used_by used) member_accessors (sectioning ∷ ps) (leaves g.tokens) (members nil) refl ms refl e) n (v.answer
-              (group-joins g));
+              ∙ read_out l (used_by used) member_accessors (sectioning ∷ ps) (leaves g.tokens) (members nil) refl ms refl e)
+              (record { messages = a.messages; is = a.is; told = failed a.told });
           long = v.long;
         }
 
-    module _ {W1 : List ℕ} {m1 : ℕ} (v : JoinedIf W base n used (Done m1) W1) where
+    module _ {W1 : List ℕ} {m1 : ℕ} (v : JoinedIf W base n used (Ok m1) W1) where
       second-on : (g : CanGroup W base n) (l : ℕ) (ps : List Pass)
           → grouped l (used_by used) (last_token ∷ member_accessors ∷ ps) [] (leaves g.tokens)
           ≡ grouped l (used_by used) ps [] (v.answer (group-joins g)).forest
@@ -358,16 +329,16 @@ module _ {W : List ℕ} {base n : ℕ} {used : OpSet} where
           ∙ read_out l (used_by used) sectioning ps (v.answer (group-joins g)).forest (sections 0 (outside nil)) refl ms refl e
 
       -- the sections, whatever becomes of them
-      pub flat-sectioned : {W' : List ℕ} (r : Left) → SectionedIf W1 base m1 used r W' → Flattened W base n used r W'
+      pub flat-sectioned : {W' : List ℕ} (r : Returned ℕ Fault) → SectionedIf W1 base m1 used r W' → Flattened W base n used r W'
       unfolding apply ends_reading
       flat-sectioned {W'} r z = record { to = λ g l ps. go g l ps r (z.answer (group-sections g v)); long = z.long ∙ v.long }
         where
-          go : (g : CanGroup W base n) (l : ℕ) (ps : List Pass) (r : Left)
-              → Answers W' (0 ∷ []) base 3 (3 * n + 3) m1 (if_run (runs (used_by used) sectioning) (sections 0 (outside nil))
+          go : (g : CanGroup W base n) (l : ℕ) (ps : List Pass) (r : Returned ℕ Fault)
+              → Answers (FlatTells W') W' (0 ∷ []) base 3 (3 * n + 3) m1 (if_run (runs (used_by used) sectioning) (sections 0 (outside nil))
               (v.answer (group-joins g)).forest) r
               → FlatTo W' base n l (used_by used) ps (grouped l (used_by used)
               (last_token ∷ member_accessors ∷ sectioning ∷ ps) [] (leaves g.tokens)) r
-          go g l ps (Done k) a =
+          go g l ps (Ok k) a =
               let f = v.answer (group-joins g) in
               let joined = joined-light (runs (used_by used) member_accessors) g.tokens f.forest f.is in
               let sectioned = sectioned-light (runs (used_by used) sectioning) f.forest a.forest joined.1 a.is in
@@ -379,6 +350,4 @@ module _ {W : List ℕ} {base n : ℕ} {used : OpSet} where
                 fewer = omega (arith, a.fewer, f.fewer);
                 light = omega (arith, joined.0, leaves-weight g.tokens, token-count g);
               }
-          go g l ps (Fail q) a = fails-to W' base n l (used_by used) ps (Fail q) tt _ (third-out g l ps) m1 a
-          go g l ps (Mismatched q) a = fails-to W' base n l (used_by used) ps (Mismatched q) tt _ (third-out g l ps) m1 a
-          go g l ps (Unclosing q) a = fails-to W' base n l (used_by used) ps (Unclosing q) tt _ (third-out g l ps) m1 a
+          go g l ps (Err fault) a = fails-to W' base n l (used_by used) ps fault _ (third-out g l ps) a

@@ -11,9 +11,9 @@ use Rattle.molang.specs.Order
 use Rattle.ops.specs.Classes.{shares}
 use Rattle.nodes.{specs.Store.{slot_end, classes_at}, proofs.Classes.{notes-meet}}
 use Rattle.levels.{specs.Passes.{classes_of, operators}, specs.declared.turns.Pass.{Pass}, proofs.PassClasses.{runs-covers}}
-use Rattle.order.specs.{declared.Choice.{Choice}, declared.Choice.TheVariants.{Run, Skip}}
-use Rattle.grouping.specs.{Driver.{CanRun, done, HasRun}, Choice.{CanChoose, Chosen}, declared.driver.Ran.{Ran}}
-use Rattle.grouping.specs.declared.driver.Ran.TheVariants.{Done}
+use Rattle.std.specs.Prelude.{Option, Some, Result, Ok}
+use Rattle.levels.specs.declared.failure.Failure.{Failure}
+use Rattle.grouping.specs.{Driver.{CanRun, done, HasRun}, Choice.{CanChoose, Chosen}}
 
 -- 'No masks' for the passes that go through nested lists.
 pub pass-free : (κ : Kind) (f : Forest) → free (operators κ) f ≡ true → pass κ f ≡ ok f
@@ -31,7 +31,7 @@ pass-free (binary ops) f h = no-masks 0 (Order.binary ops) f refl h
 
 -- slot 0 notes no class of the pass
 pub gate-shut : {W : List ℕ} {base n : ℕ} {p : Pass} → CanRun W base n p → shares (classes_at W 0) (classes_of p) ≡ false
-    → HasRun W base n p (Done n) W
+    → HasRun W base n p (Ok n) W
 gate-shut {W} {p = p} h shut =
     record {
       to = λ g.
@@ -44,15 +44,12 @@ gate-shut {W} {p = p} h shut =
 
 -- ---- by what was chosen
 
-pub chosen-can-run : {W : List ℕ} {base n : ℕ} (c : Choice) (p : Pass) → c ≡ Run p → CanChoose W base n c → CanRun W base n p
-chosen-can-run {W} {base} {n} c p e h = subst (λ (x : Choice). CanChoose W base n x) e h
+pub chosen-can-run : {W : List ℕ} {base n : ℕ} (c : Option Pass) (p : Pass) → c ≡ Some p → CanChoose W base n c → CanRun W base n p
+chosen-can-run {W} {base} {n} c p e h = subst (λ (x : Option Pass). CanChoose W base n x) e h
 
-pub chosen-run : {W W' : List ℕ} {base n : ℕ} {r : Ran} (c : Choice) (p : Pass) → c ≡ Run p → HasRun W base n p r W'
+pub chosen-run : {W W' : List ℕ} {base n : ℕ} {r : Result ℕ Failure} (c : Option Pass) (p : Pass) → c ≡ Some p → HasRun W base n p r W'
     → Chosen W base n c r W'
-chosen-run {W} {W'} {base} {n} {r} c p e h = subst (λ (x : Choice). Chosen W base n x r W') (sym e) h
-
-pub chosen-skip : (W : List ℕ) (base n : ℕ) (c : Choice) → c ≡ Skip → Chosen W base n c (Done n) W
-chosen-skip W base n c e = subst (λ (x : Choice). Chosen W base n x (Done n) W) (sym e) (refl, refl)
+chosen-run {W} {W'} {base} {n} {r} c p e h = subst (λ (x : Option Pass). Chosen W base n x r W') (sym e) h
 
 -- slot 0 is within the words
 pub root-within : {W : List ℕ} {base n : ℕ} {p : Pass} → CanRun W base n p → slot_end 0 ≤ length W

@@ -10,26 +10,15 @@ use Rattle.ops.specs.declared.sets.OpSet.{OpSet}
 use Rattle.nodes.specs.Children.{Given}
 use Rattle.nodes.{specs.Children.{CanGive}, proofs.Trees.{array-give}}
 use Rattle.levels.specs.{Turns.{lent_of}, declared.failure.Failure.{Failure}, declared.turns.Pass.{Pass as State}}
-use Rattle.grouping.specs.{Grouped.{tells, StandsFor, roots, failed, pointer_failed}, declared.grouped.Grouped.{Grouped}}
-use Rattle.grouping.specs.declared.grouped.Grouped.TheVariants.{Roots, Failed, Mismatched, Unclosed, PointerFailed}
+use Rattle.std.specs.Prelude.{Option, None, Some, Result, Ok, Err, ⊤}
+use Rattle.levels.specs.declared.failure.{Fault.{Fault}, Fault.TheVariants.{Failed, PointerFailed}}
+use Rattle.grouping.specs.Grouped.{tells, StandsFor, roots, failed, pointer_failed}
 use Rattle.grouping.specs.{Driver.{Outermost, CanRun, RanTo, done}, Choice.{CanChoose, Chosen}}
-use Rattle.grouping.specs.{Group.{CanGroup, HasGrouped, Listed, Flattened, CanLevel, Levelled}, declared.driver.Ran.{Ran}}
-use Rattle.grouping.specs.declared.driver.Ran.TheVariants.{Done, Fail}
-use Rattle.order.{specs.Ranks.{used_by, rules_of, later, Starts, Chosen as Picked}, specs.declared.Choice.{Choice}}
-use Rattle.order.{specs.declared.Choice.TheVariants.{Run, Skip}, proofs.Folding.{grouped-last, grouped-skip, RankRuns, rank-runs}}
+use Rattle.grouping.specs.Group.{CanGroup, HasGrouped, Listed, Flattened, CanLevel, Levelled}
+use Rattle.order.{specs.Ranks.{used_by, rules_of, later, Starts, Chosen as Picked}, proofs.Folding.{grouped-last, grouped-skip, RankRuns, rank-runs}}
 use Rattle.order.specs.Ranks as starts
 use Rattle.grouping.specs.Driver as driver
-use Rattle.sections.specs.declared.Flat.{Flat}
-use Rattle.sections.specs.declared.Flat.TheVariants.{Done as Items, Fail as FlatFail, Mismatched as FlatMismatched}
-use Rattle.sections.specs.declared.Flat.TheVariants.{Unclosed as FlatUnclosed}
-use Rattle.grouping.proofs.{FlatOrder.{Fallen}, Lasting.{pass-nodes}, OutermostLaws.{give-outermost}}
-
--- what `group` gives back where a flat pass fails
-abbrev pub end_of : Flat → Grouped
-end_of (Items m) = Roots
-end_of (FlatFail f) = Failed f
-end_of (FlatMismatched f) = Mismatched f
-end_of (FlatUnclosed f) = Unclosed f
+use Rattle.grouping.proofs.{Lasting.{pass-nodes}, OutermostLaws.{give-outermost}}
 
 -- ---- one rank
 
@@ -46,11 +35,6 @@ starts-unlent (starts.point e) = refl
 starts-unlent (starts.plus e) = refl
 starts-unlent (starts.level e) = refl
 
--- what a rank left, as the arm of the `match` knows it
-pub chosen-as : (W : List ℕ) (base n : ℕ) (c : Choice) (x : Ran) (W' : List ℕ) {y : Ran} → x ≡ y → Chosen W base n c x W'
-    → Chosen W base n c y W'
-chosen-as W base n c x W' e h = subst (λ (r : Ran). Chosen W base n c r W') e h
-
 -- What holds before rank k: the outermost list F of n items, and the answer over a source of length l.
 pub record LevelAt (W₀ : List ℕ) (base m : ℕ) (u : ℕ → Bool) (r : Rules) (g : CanLevel W₀ base m) (l : ℕ) (W : List ℕ) (k n : ℕ)
     : Type 0 where
@@ -64,7 +48,7 @@ level-start u r g l = record { F = g.F; list = g.list; light = g.light; answer =
 
 module _ {W₀ : List ℕ} {base m : ℕ} {u : ℕ → Bool} {r : Rules} {g : CanLevel W₀ base m} {l : ℕ} {W : List ℕ} {k n : ℕ}
     (long : length W ≡ length W₀) where
-  module _ (v : LevelAt W₀ base m u r g l W k n) (state : State) (c : Picked u (drop k (later r)) (Run state)) where
+  module _ (v : LevelAt W₀ base m u r g l W k n) (state : State) (c : Picked u (drop k (later r)) (Some state)) where
     abbrev pub rank : RankRuns l u r k [] v.F state
     rank = rank-runs l u r k [] v.F state c
 
@@ -84,15 +68,15 @@ module _ {W₀ : List ℕ} {base m : ℕ} {u : ℕ → Bool} {r : Rules} {g : Ca
         }
 
   -- what a rank asks, by what was chosen there
-  pub level-chooses : LevelAt W₀ base m u r g l W k n → (c : Choice) → Picked u (drop k (later r)) c → CanChoose W base n c
-  level-chooses v (Run state) c = level-run v state c
-  level-chooses v Skip c = tt
+  pub level-chooses : LevelAt W₀ base m u r g l W k n → (c : Option State) → Picked u (drop k (later r)) c → CanChoose W base n c
+  level-chooses v (Some state) c = level-run v state c
+  level-chooses v None c = tt
 
   -- the pass went through, or there was none
-  pub level-on : LevelAt W₀ base m u r g l W k n → (c : Choice) → Picked u (drop k (later r)) c → {W' : List ℕ} (left : ℕ)
-      → Chosen W base n c (Done left) W'
+  pub level-on : LevelAt W₀ base m u r g l W k n → (c : Option State) → Picked u (drop k (later r)) c → {W' : List ℕ} (left : ℕ)
+      → Chosen W base n c (Ok left) W'
       → LevelAt W₀ base m u r g l W' (k + 1) left
-  level-on v Skip c {W'} left h =
+  level-on v None c {W'} left h =
       let same : left ≡ n = cc in
       record {
         F = v.F;
@@ -100,9 +84,9 @@ module _ {W₀ : List ℕ} {base m : ℕ} {u : ℕ → Bool} {r : Rules} {g : Ca
         light = v.light;
         answer = v.answer ∙ grouped-skip l u r k [] v.F c;
       }
-  level-on v (Run state) c {W'} left h = went (h.to (level-run v state c))
+  level-on v (Some state) c {W'} left h = went (h.to (level-run v state c))
     where
-      went : RanTo W' base (3 * g.n + 3) (pass (rank v state c).kind v.F) (Done left) → LevelAt W₀ base m u r g l W' (k + 1) left
+      went : RanTo W' base (3 * g.n + 3) (pass (rank v state c).kind v.F) (Ok left) → LevelAt W₀ base m u r g l W' (k + 1) left
       went (done {f = f} e o) =
           record {
             F = f;
@@ -112,41 +96,41 @@ module _ {W₀ : List ℕ} {base m : ℕ} {u : ℕ → Bool} {r : Rules} {g : Ca
           }
 
   -- the pass failed: the pointer's, which leaves the list empty, or another's
-  pub level-pointer : LevelAt W₀ base m u r g l W k n → (c : Choice) → Picked u (drop k (later r)) c → {W' : List ℕ} (f : Failure)
-      → Chosen W base n c (Fail f) W'
-      → k ≡ 3 → StandsFor W' (3 * g.n + 3) g.n l (PointerFailed f) (grouped l u (drop 3 (order r)) [] g.F)
-  level-pointer v Skip c f h at = let z : ◌≡◌ {A = ℕ} 0 1 = cc in absurd (omega arith)
-  level-pointer v (Run state) c {W'} f h at = fell (h.to (level-run v state c))
+  pub level-pointer : LevelAt W₀ base m u r g l W k n → (c : Option State) → Picked u (drop k (later r)) c → {W' : List ℕ} (f : Failure)
+      → Chosen W base n c (Err f) W'
+      → k ≡ 3 → StandsFor W' (3 * g.n + 3) g.n l (Err (PointerFailed f)) (grouped l u (drop 3 (order r)) [] g.F)
+  level-pointer v None c f h at = let z : ◌≡◌ {A = ℕ} 0 1 = cc in absurd (omega arith)
+  level-pointer v (Some state) c {W'} f h at = fell (h.to (level-run v state c))
     where
-      fell : RanTo W' base (3 * g.n + 3) (pass (rank v state c).kind v.F) (Fail f)
-          → StandsFor W' (3 * g.n + 3) g.n l (PointerFailed f) (grouped l u (drop 3 (order r)) [] g.F)
+      fell : RanTo W' base (3 * g.n + 3) (pass (rank v state c).kind v.F) (Err f)
+          → StandsFor W' (3 * g.n + 3) g.n l (Err (PointerFailed f)) (grouped l u (drop 3 (order r)) [] g.F)
       fell (driver.failed {ms = ms} e t) =
-          subst (λ (a : Answer). StandsFor W' (3 * g.n + 3) g.n l (PointerFailed f) a)
+          subst (λ (a : Answer). StandsFor W' (3 * g.n + 3) g.n l (Err (PointerFailed f)) a)
           (sym (v.answer ∙ (rank v state c).pointer-ends ms at e)) (pointer_failed t)
 
-  pub level-fails : LevelAt W₀ base m u r g l W k n → (c : Choice) → Picked u (drop k (later r)) c → {W' : List ℕ} (f : Failure)
-      → Chosen W base n c (Fail f) W'
-      → k ≢ 3 → StandsFor W' (3 * g.n + 3) g.n l (Failed f) (grouped l u (drop 3 (order r)) [] g.F)
-  level-fails v Skip c f h other = let z : ◌≡◌ {A = ℕ} 0 1 = cc in absurd (omega arith)
-  level-fails v (Run state) c {W'} f h other = fell (h.to (level-run v state c))
+  pub level-fails : LevelAt W₀ base m u r g l W k n → (c : Option State) → Picked u (drop k (later r)) c → {W' : List ℕ} (f : Failure)
+      → Chosen W base n c (Err f) W'
+      → k ≢ 3 → StandsFor W' (3 * g.n + 3) g.n l (Err (Failed f)) (grouped l u (drop 3 (order r)) [] g.F)
+  level-fails v None c f h other = let z : ◌≡◌ {A = ℕ} 0 1 = cc in absurd (omega arith)
+  level-fails v (Some state) c {W'} f h other = fell (h.to (level-run v state c))
     where
-      fell : RanTo W' base (3 * g.n + 3) (pass (rank v state c).kind v.F) (Fail f)
-          → StandsFor W' (3 * g.n + 3) g.n l (Failed f) (grouped l u (drop 3 (order r)) [] g.F)
+      fell : RanTo W' base (3 * g.n + 3) (pass (rank v state c).kind v.F) (Err f)
+          → StandsFor W' (3 * g.n + 3) g.n l (Err (Failed f)) (grouped l u (drop 3 (order r)) [] g.F)
       fell (driver.failed {ms = ms} e t) =
-          subst (λ (a : Answer). StandsFor W' (3 * g.n + 3) g.n l (Failed f) a) (sym (v.answer ∙ (rank v state c).ends ms other e))
+          subst (λ (a : Answer). StandsFor W' (3 * g.n + 3) g.n l (Err (Failed f)) a) (sym (v.answer ∙ (rank v state c).ends ms other e))
           (failed (tells t))
 
 -- after the last rank: the roots
 pub level-roots : {W₀ : List ℕ} {base m : ℕ} {u : ℕ → Bool} {r : Rules} {g : CanLevel W₀ base m} {l : ℕ} {W : List ℕ} {k n : ℕ}
-    → LevelAt W₀ base m u r g l W k n → k ≡ 23
-    → StandsFor W (3 * g.n + 3) g.n l Roots (grouped l u (drop 3 (order r)) [] g.F)
+    → LevelAt W₀ base m u r g l W k n → k ≡ length (later r)
+    → StandsFor W (3 * g.n + 3) g.n l (Ok tt) (grouped l u (drop 3 (order r)) [] g.F)
 level-roots {u = u} {r} {g} {l} {W} {k} v e =
     let last = ap (λ (j : ℕ). grouped l u (drop j (later r)) [] v.F) e ∙ grouped-last l u r [] v.F in
-    subst (λ (a : Answer). StandsFor W (3 * g.n + 3) g.n l Roots a) (sym (v.answer ∙ last))
+    subst (λ (a : Answer). StandsFor W (3 * g.n + 3) g.n l (Ok tt) a) (sym (v.answer ∙ last))
     (roots v.list.owned (omega (arith, size-weight v.F, v.light)))
 
 -- the same at an equal version
-pub levelled-at : {W W' : List ℕ} {base m : ℕ} {used : OpSet} {r : Grouped} {z z' : ℤ} → z ≡ z' → Levelled W base m used z r W'
+pub levelled-at : {W W' : List ℕ} {base m : ℕ} {used : OpSet} {r : Result ⊤ Fault} {z z' : ℤ} → z ≡ z' → Levelled W base m used z r W'
     → Levelled W base m used z' r W'
 levelled-at {W} {W'} {base} {m} {used} {r} e w = subst (λ (v : ℤ). Levelled W base m used v r W') e w
 
@@ -154,22 +138,15 @@ levelled-at {W} {W'} {base} {m} {used} {r} e w = subst (λ (v : ℤ). Levelled W
 
 module _ {W W1 : List ℕ} {base n : ℕ} {used : OpSet} where
   -- a flat pass failed
-  pub group-ends : (x y : Flat) (version : ℤ) → x ≡ y → Fallen y → Flattened W base n used x W1
-      → HasGrouped W base n used version (end_of y) W1
+  pub group-ends : (fault : Fault) (version : ℤ) → Flattened W base n used (Err fault) W1 → HasGrouped W base n used version (Err fault) W1
   unfolding order
-  group-ends x y version e d w = go y d (subst (λ (z : Flat). Flattened W base n used z W1) e w)
-    where
-      go : (y : Flat) → Fallen y → Flattened W base n used y W1 → HasGrouped W base n used version (end_of y) W1
-      go (Items m) d w = absurd d
-      go (FlatFail f) d w = record { to = λ g l. w.to g l (drop 3 (order (rules_of version))); long = w.long }
-      go (FlatMismatched f) d w = record { to = λ g l. w.to g l (drop 3 (order (rules_of version))); long = w.long }
-      go (FlatUnclosed f) d w = record { to = λ g l. w.to g l (drop 3 (order (rules_of version))); long = w.long }
+  group-ends fault version w = record { to = λ g l. w.to g l (drop 3 (order (rules_of version))); long = w.long }
 
-  module _ (x : Flat) (m : ℕ) (e : x ≡ Items m) (w : Flattened W base n used x W1) where
+  module _ (m : ℕ) (w : Flattened W base n used (Ok m) W1) where
     left : (g : CanGroup W base n) (l : ℕ) (ps : List Pass)
         → Listed W1 base n l (used_by used) ps (grouped l (used_by used)
         (last_token ∷ member_accessors ∷ sectioning ∷ ps) [] (leaves g.tokens)) m
-    left g l ps = (subst (λ (z : Flat). Flattened W base n used z W1) e w).to g l ps
+    left g l ps = w.to g l ps
 
     pub group-gives : CanGroup W base n → CanGive W1 0 base m
     group-gives g =
@@ -194,7 +171,7 @@ module _ {W W1 : List ℕ} {base n : ℕ} {used : OpSet} where
       pub group-levels : CanGroup W base n → CanLevel W2 base m
       group-levels g = levels-on g 0 []
 
-      pub group-done : {W3 : List ℕ} {r : Grouped} {version : ℤ} → Levelled W2 base m used version r W3
+      pub group-done : {W3 : List ℕ} {r : Result ⊤ Fault} {version : ℤ} → Levelled W2 base m used version r W3
           → HasGrouped W base n used version r W3
       unfolding order levels-on
       group-done {W3} {r} {version} v =

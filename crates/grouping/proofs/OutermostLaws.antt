@@ -1,15 +1,14 @@
 -- The outermost list between two passes: given to slot 0 it still stands where it stood, it can be moved down, and the next pass may take
 -- it from there.
 use Prim.Native.Nat.{ℕ, ◌+◌, ◌≤◌, ◌<◌}
-use mathlib.Core.{Path.{◌≡◌, refl, sym, ap, ◌∙◌, subst}, Logic.{◌⊎◌, inl, inr, ⊎_elim}, Bool.{Bool, true, false}, List.{List, [], ◌∷◌}}
+use mathlib.Core.{Path.{◌≡◌, refl, sym, ap, ◌∙◌, subst}, List.{List, [], ◌∷◌}}
 use native.Mathlib.{Omega.{arith}, Nat.{add-zero}}
-use lib.{Dec.{eqb}, ListN.{length, set, length-set}}
-use borrow.Author.Tests.{eqb-true, eqb-false}
+use lib.{ListN.{length}}
 use Rattle.molang.specs.Forest.{Forest}
 use Rattle.nodes.specs.{Store.{wd, first_field, classes_field, slot_start, next_word, first_at, Seg, InArray}, Children.{Taken, Given}}
-use Rattle.nodes.proofs.{Runs.{wd-same, wd-other, off-above, seg-keep, chain-unique}, Store.{rep-lower, rep-keep, links-keep, roots-above}}
+use Rattle.nodes.proofs.{Runs.{off-above, seg-keep, chain-unique}, Store.{rep-lower, rep-keep, links-keep, roots-above}}
 use Rattle.nodes.proofs.Trees.{array_owned}
-use Rattle.grouping.specs.Driver.{Outermost, CanMove, Moved}
+use Rattle.grouping.specs.Driver.{Outermost, Moved}
 
 -- slot 0 takes an array, which stays where it is
 pub give-outermost : {W W' : List ℕ} {at n lo hi : ℕ} {f : Forest} → Given W 0 at n W' → InArray W (0 ∷ []) at n lo hi f → 0 < hi
@@ -67,47 +66,3 @@ outermost-taken {W} {base} {n} v =
       same = λ j x. refl;
       long = refl;
     }
-
--- ---- `move_down`
-
--- Before item i: those before it stand in their new words, and the words after those are as they were.
-pub record Moving (W : List ℕ) (from n base : ℕ) (Z : List ℕ) (i : ℕ) : Type 0 where
-  pub can : CanMove W from n base
-  pub some : i ≤ n
-  pub words : (k : ℕ) → k < i → wd Z (base + k) ≡ wd W (from + k)
-  pub same : (j : ℕ) → (j < base) ⊎ (base + i ≤ j) → wd Z j ≡ wd W j
-  pub long : length Z ≡ length W
-
-pub move-begins : {W : List ℕ} {from n base : ℕ} → CanMove W from n base → Moving W from n base W 0
-move-begins g = record { can = g; some = omega arith; words = λ k h. absurd (omega arith); same = λ j x. refl; long = refl }
-
-pub move-on : {W Z : List ℕ} {from n base i : ℕ} → Moving W from n base Z i → i < n
-    → Moving W from n base (set Z (base + i) (wd Z (from + i))) (i + 1)
-move-on {W} {Z} {from} {n} {base} {i} v more =
-    let down = v.can.down in
-    let within = v.can.within in
-    let long = v.long in
-    record {
-      can = v.can;
-      some = omega arith;
-      words = λ k h. moved k h (eqb k i) refl;
-      same =
-          λ j x.
-          wd-other Z (base + i) (wd Z (from + i)) j (⊎_elim (λ a. omega arith) (λ a. omega arith) x)
-          ∙ v.same j (⊎_elim (λ a. inl a) (λ a. inr (omega arith)) x);
-      long = length-set Z (base + i) (wd Z (from + i)) ∙ long;
-    }
-  where
-    moved : (k : ℕ) → k < i + 1 → (b : Bool) → eqb k i ≡ b → wd (set Z (base + i) (wd Z (from + i))) (base + k) ≡ wd W (from + k)
-    moved k h true e =
-        let down = v.can.down in
-        let within = v.can.within in
-        let long = v.long in
-        subst (λ (x : ℕ). wd (set Z (base + i) (wd Z (from + i))) (base + x) ≡ wd W (from + x)) (sym (eqb-true k i e))
-        (wd-same Z (base + i) (wd Z (from + i)) (omega arith) ∙ v.same (from + i) (inr (omega arith)))
-    moved k h false e =
-        let other = eqb-false k i e in
-        wd-other Z (base + i) (wd Z (from + i)) (base + k) (omega arith) ∙ v.words k (omega arith)
-
-pub move-ends : {W Z : List ℕ} {from n base i : ℕ} → Moving W from n base Z i → n ≤ i → Moved W from n base Z
-move-ends v h = record { words = λ k x. v.words k (omega (arith, v.some)); same = λ j x. v.same j (inl x); long = v.long }

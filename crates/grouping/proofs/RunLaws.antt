@@ -12,8 +12,8 @@ use Rattle.levels.specs.{Passes.{classes_of, waits}, Sides.{Holds}, Turns.{turns
 use Rattle.levels.specs.{declared.turns.Pass.{Pass}, declared.turns.Walk.{Walk}}
 use Rattle.grouping.specs.Driver.{Stack, bottom, Going, turns_below, Beyond, CanOpen, Opened, CanBegin, Begun, NextTo, CanAdvance}
 use Rattle.grouping.specs.{Driver.{Advanced, CanRun, RanTo, done, failed, HasRun}, declared.driver.Next.{Next}}
-use Rattle.grouping.specs.declared.driver.Next.TheVariants.{On, Done, Fail}
-use Rattle.grouping.specs.declared.driver.Ran.TheVariants.{Done as Through, Fail as Failed}
+use Rattle.grouping.specs.declared.driver.Next.TheVariants.{On, Done}
+use Rattle.std.specs.Prelude.{Result as Returned, Ok, Err}
 use Rattle.grouping.proofs.{StackLaws.{beyond-then}, OutermostLaws.{outermost-taken}}
 
 -- ---- the outermost list begins
@@ -132,9 +132,9 @@ run-enough opened g =
     let long = opened.long in
     omega arith
 
-pub run_holds : {W W1 : List ℕ} {base n : ℕ} {p : Pass} {w : Walk} → Opened W 0 base p w W1 → CanRun W base n p
-    → Running W1 w base (length W1) W1 w (length W1)
-run_holds opened g =
+pub run_holds : {W W1 : List ℕ} {base n : ℕ} {p : Pass} {w : Walk} → Opened W 0 base p w W1 → CanRun W base n p → (fuel : ℕ)
+    → fuel ≡ length W1 → Running W1 w base (length W1) W1 w fuel
+run_holds opened g fuel f =
     record {
       at = λ a e. record {
         S = a.S;
@@ -142,7 +142,7 @@ run_holds opened g =
         rest = a.rest;
         going = a.going;
         result = refl;
-        turns = e;
+        turns = omega (arith, e, f);
         beyond = record { kept = λ j x y. refl; long = refl };
       };
       start = run-starts opened g;
@@ -159,7 +159,7 @@ pub running-advances : {W0 : List ℕ} {w0 : Walk} {base fuel0 : ℕ} {W : List 
     → CanAdvance W w base
 running-advances v = run-advances v.start (v.at v.start v.enough)
 
-module _ {W0 : List ℕ} {w0 : Walk} {base : ℕ} {W W' : List ℕ} {w : Walk} {fuel : ℕ} (x : Next) (adv : Advanced W w base x W') where
+module _ {W0 : List ℕ} {w0 : Walk} {base : ℕ} {W W' : List ℕ} {w : Walk} {fuel : ℕ} (x : Returned Next Failure) (adv : Advanced W w base x W') where
   run-next : (g : CanAdvance W0 w0 base) (v : RunAt W0 w0 base g W w fuel)
       → NextTo g.κ g.classes W' base g.hi0 (result_of g) (turns_left g.κ v.s v.rest + turns_below g.κ v.S) x
   unfolding run-advances
@@ -172,17 +172,17 @@ module _ {W0 : List ℕ} {w0 : Walk} {base : ℕ} {W W' : List ℕ} {w : Walk} {
 
 run-goes : {W0 : List ℕ} {w0 : Walk} {base : ℕ} {W' : List ℕ} {w' : Walk} {fuel fuel' turns : ℕ} (g : CanAdvance W0 w0 base) → turns < fuel
     → fuel' + 1 ≡ fuel → Beyond W0 W' base g.hi0
-    → NextTo g.κ g.classes W' base g.hi0 (result_of g) turns (On w') → RunAt W0 w0 base g W' w' fuel'
+    → NextTo g.κ g.classes W' base g.hi0 (result_of g) turns (Ok (On w')) → RunAt W0 w0 base g W' w' fuel'
 run-goes g t e b (NextTo.goes {S' = S} {s' = s} {rest' = rest} go r less) =
     record { S = S; s = s; rest = rest; going = go; result = r; turns = omega arith; beyond = b }
 
 pub run-again : {W0 : List ℕ} {w0 : Walk} {base fuel0 : ℕ} {W W' : List ℕ} {w : Walk} {fuel fuel' : ℕ} (x : Next) (w' : Walk)
     → Running W0 w0 base fuel0 W w fuel
-    → Advanced W w base x W' → x ≡ On w' → fuel' + 1 ≡ fuel → length W' ≡ length W → Running W0 w0 base fuel0 W' w' fuel'
+    → Advanced W w base (Ok x) W' → x ≡ On w' → fuel' + 1 ≡ fuel → length W' ≡ length W → Running W0 w0 base fuel0 W' w' fuel'
 run-again {W0} {w0} {base} {W = W} {W'} {w} x w' v adv ex ef long =
-    let adv' : Advanced W w base (On w') W' = subst (λ (y : Next). Advanced W w base y W') ex adv in
+    let adv' : Advanced W w base (Ok (On w')) W' = subst (λ (y : Next). Advanced W w base (Ok y) W') ex adv in
     record {
-      at = λ g e. let a = v.at g e in run-goes g a.turns ef (run-beyond (On w') adv' g a) (run-next (On w') adv' g a);
+      at = λ g e. let a = v.at g e in run-goes g a.turns ef (run-beyond (Ok (On w')) adv' g a) (run-next (Ok (On w')) adv' g a);
       start = v.start;
       enough = v.enough;
       long = long ∙ v.long;
@@ -191,7 +191,7 @@ run-again {W0} {w0} {base} {W = W} {W'} {w} x w' v adv ex ef long =
 -- ---- the end of the pass
 
 module _ {W W0 : List ℕ} {base n : ℕ} {p : Pass} {w0 : Walk} (opened : Opened W 0 base p w0 W0) {Z Z' : List ℕ} {w : Walk} {fuel : ℕ}
-    (v : Running W0 w0 base (length W0) Z w fuel) (x : Next) (adv : Advanced Z w base x Z') where
+    (v : Running W0 w0 base (length W0) Z w fuel) (x : Returned Next Failure) (adv : Advanced Z w base x Z') where
   ran-at : (g : CanRun W base n p) → RunAt W0 w0 base (run-starts opened g) Z w fuel
   ran-at g = v.at (run-starts opened g) (run-enough opened g)
 
@@ -211,27 +211,25 @@ module _ {W W0 : List ℕ} {base n : ℕ} {p : Pass} {w0 : Walk} (opened : Opene
       (sym (whole g))
       (run-next x adv (run-starts opened g) (ran-at g))
 
-done-to : {κ : Kind} {classes : ℕ} {Z' : List ℕ} {base hi turns left : ℕ} {r : Result} → NextTo κ classes Z' base hi r turns (Done left)
-    → RanTo Z' base hi r (Through left)
+done-to : {κ : Kind} {classes : ℕ} {Z' : List ℕ} {base hi turns left : ℕ} {r : Result} → NextTo κ classes Z' base hi r turns (Ok (Done left))
+    → RanTo Z' base hi r (Ok left)
 done-to (NextTo.ends q v) = done q v
 
 failed-to : {κ : Kind} {classes : ℕ} {Z' : List ℕ} {base hi turns : ℕ} {r : Result} {f : Failure}
-    → NextTo κ classes Z' base hi r turns (Fail f) → RanTo Z' base hi r (Failed f)
+    → NextTo κ classes Z' base hi r turns (Err f) → RanTo Z' base hi r (Err f)
 failed-to (NextTo.fails q t) = failed q t
 
 pub ran-done : {W W0 Z Z' : List ℕ} {base n fuel : ℕ} {p : Pass} {w0 w : Walk} → Opened W 0 base p w0 W0
-    → Running W0 w0 base (length W0) Z w fuel → (x : Next) → Advanced Z w base x Z'
-    → (left : ℕ) → x ≡ Done left → HasRun W base n p (Through left) Z'
+    → Running W0 w0 base (length W0) Z w fuel → (x : Next) → Advanced Z w base (Ok x) Z'
+    → (left : ℕ) → x ≡ Done left → HasRun W base n p (Ok left) Z'
 ran-done {Z = Z} {Z'} {base} {w = w} opened v x adv left e =
-    let adv' : Advanced Z w base (Done left) Z' = subst (λ (y : Next). Advanced Z w base y Z') e adv in
-    record { to = λ g. done-to (ran-next opened v (Done left) adv' g); beyond = ran-beyond opened v (Done left) adv' }
+    let adv' : Advanced Z w base (Ok (Done left)) Z' = subst (λ (y : Next). Advanced Z w base (Ok y) Z') e adv in
+    record { to = λ g. done-to (ran-next opened v (Ok (Done left)) adv' g); beyond = ran-beyond opened v (Ok (Done left)) adv' }
 
 pub ran-failed : {W W0 Z Z' : List ℕ} {base n fuel : ℕ} {p : Pass} {w0 w : Walk} → Opened W 0 base p w0 W0
-    → Running W0 w0 base (length W0) Z w fuel → (x : Next) → Advanced Z w base x Z'
-    → (f : Failure) → x ≡ Fail f → HasRun W base n p (Failed f) Z'
-ran-failed {Z = Z} {Z'} {base} {w = w} opened v x adv f e =
-    let adv' : Advanced Z w base (Fail f) Z' = subst (λ (y : Next). Advanced Z w base y Z') e adv in
-    record { to = λ g. failed-to (ran-next opened v (Fail f) adv' g); beyond = ran-beyond opened v (Fail f) adv' }
+    → Running W0 w0 base (length W0) Z w fuel → (f : Failure) → Advanced Z w base (Err f) Z' → HasRun W base n p (Err f) Z'
+ran-failed opened v f adv =
+    record { to = λ g. failed-to (ran-next opened v (Err f) adv g); beyond = ran-beyond opened v (Err f) adv }
 
 -- the loop does not run out of turns
 pub run-never : {W0 : List ℕ} {w0 : Walk} {base fuel0 : ℕ} {Z : List ℕ} {w : Walk} {fuel : ℕ} → Running W0 w0 base fuel0 Z w fuel → fuel ≤ 0

@@ -1,8 +1,8 @@
 -- The driver's stack and what its functions ask and ensure: where a pass is, as the list on top and the lists that wait below it. A turn
 -- leaves the result of the whole pass as it is, and there are fewer turns left after it.
-use Rattle.std.specs.Prelude.{ℕ, ◌+◌, ◌*◌, ◌^◌, ◌≤◌, ◌<◌, ◌≡◌, ◌⊎◌, false, List, [], ◌∷◌, length}
+use Rattle.std.specs.Prelude.{ℕ, ◌+◌, ◌*◌, ◌^◌, ◌≤◌, ◌<◌, ◌≡◌, ◌⊎◌, false, List, [], ◌∷◌, length, Result, Ok, Err}
 use Rattle.molang.specs.Forest.{Token, Forest, nil, count, size}
-use Rattle.molang.specs.Message.{Message, Result, ok, fail}
+use Rattle.molang.specs.Message.{Message, Result as Answer, ok, fail}
 use Rattle.molang.specs.Free.{is_nil}
 use Rattle.molang.specs.Work.{Kind, State, work, pass, in_reading, takes, and_then, Held, held, unwound}
 use Rattle.nodes.specs.Store.{wd, slot_start, first_at, TokenAt, Seg, Out, RepT, Owned, Free}
@@ -18,9 +18,7 @@ use Rattle.levels.specs.declared.turns.Pass.{Pass}
 use Rattle.levels.specs.declared.turns.Pass.TheVariants.{Calls, MathCalls, Unsplit, Split, Arrays, Unary, Binary, Conditional, Returns}
 use Rattle.levels.specs.declared.turns.Walk.{Walk}
 use Rattle.grouping.specs.declared.driver.Next.{Next}
-use Rattle.grouping.specs.declared.driver.Next.TheVariants.{On, Done, Fail}
-use Rattle.grouping.specs.declared.driver.Ran.{Ran}
-use Rattle.grouping.specs.declared.driver.Ran.TheVariants.{Done as Through, Fail as Failed}
+use Rattle.grouping.specs.declared.driver.Next.TheVariants.{On, Done}
 
 -- ---- the stack
 
@@ -52,7 +50,7 @@ pub data Stack (κ : Kind) (classes : ℕ) (W : List ℕ) (base0 hi0 : ℕ) : Li
       → Stack κ classes W base0 hi0 (w.list.owner ∷ X) b l m (w.list.base + w.list.len + 6) (held t k rest ∷ S)
 
 -- No pass empties a list: r, which the list on top gives, is not empty, and what each list below then gives is not empty either.
-abbrev pub Full : (κ : Kind) → List (Held κ) → Result → Type 0
+abbrev pub Full : (κ : Kind) → List (Held κ) → Answer → Type 0
 Full κ [] r = Unit {0}
 Full κ (held t k rest ∷ S) r = ((f : Forest) → r ≡ ok f → is_nil f ≡ false) × Full κ S (and_then r (λ kids. work κ (takes κ t k kids) rest))
 
@@ -193,12 +191,12 @@ pub record Moved (W : List ℕ) (from n base : ℕ) (W' : List ℕ) : Type 0 whe
 -- ---- `close`, `advance`
 
 -- Where a turn of the driver leads to, from what is left to be done: the same result with fewer turns, or the end of the whole pass.
-pub data NextTo (κ : Kind) (classes : ℕ) (W' : List ℕ) (base0 hi0 : ℕ) (r : Result) (turns : ℕ) : Next → Type 0 where
+pub data NextTo (κ : Kind) (classes : ℕ) (W' : List ℕ) (base0 hi0 : ℕ) (r : Answer) (turns : ℕ) : Result Next Failure → Type 0 where
   goes : {w' : Walk} {S' : List (Held κ)} {s' : State κ} {rest' : Forest} → Going κ classes W' base0 hi0 w' S' s' rest'
       → r ≡ unwound κ S' (work κ s' rest') → turns_left κ s' rest' + turns_below κ S' < turns
-      → NextTo κ classes W' base0 hi0 r turns (On w')
-  ends : {f : Forest} {n : ℕ} → r ≡ ok f → Outermost W' base0 n hi0 f → NextTo κ classes W' base0 hi0 r turns (Done n)
-  fails : {f : Failure} {ms : List Message} → r ≡ fail ms → Tells W' f ms → NextTo κ classes W' base0 hi0 r turns (Fail f)
+      → NextTo κ classes W' base0 hi0 r turns (Ok (On w'))
+  ends : {f : Forest} {n : ℕ} → r ≡ ok f → Outermost W' base0 n hi0 f → NextTo κ classes W' base0 hi0 r turns (Ok (Done n))
+  fails : {f : Failure} {ms : List Message} → r ≡ fail ms → Tells W' f ms → NextTo κ classes W' base0 hi0 r turns (Err f)
 
 -- The pass is somewhere in its lists (`Going`).
 pub record CanAdvance (W : List ℕ) (w : Walk) (base0 : ℕ) : Type 0 where
@@ -211,7 +209,7 @@ pub record CanAdvance (W : List ℕ) (w : Walk) (base0 : ℕ) : Type 0 where
   pub going : Going κ classes W base0 hi0 w S s rest
 
 -- One turn leads on with the same result and fewer turns left, or to the end of the whole pass.
-pub record Advanced (W : List ℕ) (w : Walk) (base0 : ℕ) (r : Next) (W' : List ℕ) : Type 0 where
+pub record Advanced (W : List ℕ) (w : Walk) (base0 : ℕ) (r : Result Next Failure) (W' : List ℕ) : Type 0 where
   pub to : (g : CanAdvance W w base0)
       → NextTo g.κ g.classes W' base0 g.hi0 (unwound g.κ g.S (work g.κ g.s g.rest))
       (turns_left g.κ g.s g.rest + turns_below g.κ g.S) r
@@ -228,7 +226,7 @@ pub record CanClose (W : List ℕ) (w : Walk) (base0 : ℕ) : Type 0 where
   pub idle : waits κ s ≡ 0
 
 -- The end of the list on top leads on with the same result, or to the end of the whole pass.
-pub record Closed (W : List ℕ) (w : Walk) (base0 : ℕ) (r : Next) (W' : List ℕ) : Type 0 where
+pub record Closed (W : List ℕ) (w : Walk) (base0 : ℕ) (r : Result Next Failure) (W' : List ℕ) : Type 0 where
   pub to : (g : CanClose W w base0)
       → NextTo g.κ g.classes W' base0 g.hi0 (unwound g.κ g.S (work g.κ g.s nil)) (turns_below g.κ g.S) r
   pub beyond : (g : CanClose W w base0) → Beyond W W' base0 g.hi0
@@ -249,11 +247,11 @@ pub record CanRun (W : List ℕ) (base n : ℕ) (p : Pass) : Type 0 where
   pub small : length W < 2 ^ 32
 
 -- The pass ran to its end: its result r is a list, which is the outermost one now, or the messages of the failure.
-pub data RanTo (W' : List ℕ) (base hi : ℕ) (r : Result) : Ran → Type 0 where
-  done : {f : Forest} {n : ℕ} → r ≡ ok f → Outermost W' base n hi f → RanTo W' base hi r (Through n)
-  failed : {f : Failure} {ms : List Message} → r ≡ fail ms → Tells W' f ms → RanTo W' base hi r (Failed f)
+pub data RanTo (W' : List ℕ) (base hi : ℕ) (r : Answer) : Result ℕ Failure → Type 0 where
+  done : {f : Forest} {n : ℕ} → r ≡ ok f → Outermost W' base n hi f → RanTo W' base hi r (Ok n)
+  failed : {f : Failure} {ms : List Message} → r ≡ fail ms → Tells W' f ms → RanTo W' base hi r (Err f)
 
 -- The run came to the result of the definition's pass over the outermost list.
-pub record HasRun (W : List ℕ) (base n : ℕ) (p : Pass) (r : Ran) (W' : List ℕ) : Type 0 where
+pub record HasRun (W : List ℕ) (base n : ℕ) (p : Pass) (r : Result ℕ Failure) (W' : List ℕ) : Type 0 where
   pub to : (g : CanRun W base n p) → RanTo W' base g.hi (pass g.κ g.F) r
   pub beyond : (g : CanRun W base n p) → Beyond W W' base g.hi

@@ -16,19 +16,12 @@ use nodes::slots::ROOT;
 use nodes::{children, frames, slots};
 use passes::{arrays, binary, calls, conditional, returns, statements, unary};
 
-// What one turn of the driver leads to; at the end of the pass, how many items the outermost list has.
+// What one turn of the driver leads to, if no level fails; at the end of the pass, how many items the outermost list has. (`ControlFlow`
+// has these two cases under names that say less.)
 #[derive(Clone, Copy)]
 pub enum Next {
     On(Walk),
     Done(usize),
-    Fail(Failure),
-}
-
-// What a pass ends with; if it went through, how many items the outermost list has.
-#[derive(Clone, Copy)]
-pub enum Ran {
-    Done(usize),
-    Fail(Failure),
 }
 
 // The list of `owner`, whose `len` children stand from `base` on, at the pass's start.
@@ -67,7 +60,7 @@ fn open(work: &mut [u32], owner: u32, base: usize, pass: Pass) -> Walk
 }
 
 // The token `item` of a level that seeks from the left. (A list without semicolons has no token of its pass; one would stay as it is.)
-fn token(work: &mut [u32], list: List, pass: Pass, item: u32) -> Turn
+fn token(work: &mut [u32], list: List, pass: Pass, item: u32) -> Result<Turn, Failure>
     requires { AtToken work.old list item × Seeks pass }
     ensures { TokenOf pass work.old list item result work.new }
 {
@@ -77,34 +70,32 @@ fn token(work: &mut [u32], list: List, pass: Pass, item: u32) -> Turn
         Pass::Arrays { .. } => arrays::array_name(work, list, item),
         Pass::Binary { classes, .. } => binary::operator(work, list, item, classes),
         Pass::Returns => returns::returned(work, list, item),
-        _ => turns::on(items::keep(work, list, item), pass),
+        _ => Ok(turns::on(items::keep(work, list, item), pass)),
     }
 }
 
 // A level that seeks from the left, up to its next token or node.
-fn seek(work: &mut [u32], list: List, pass: Pass) -> Turn
+fn seek(work: &mut [u32], list: List, pass: Pass) -> Result<Turn, Failure>
     requires { CanTurn work.old (walk_of list pass) × Seeks pass }
     ensures { Turned work.old (walk_of list pass) result work.new }
 {
-    let found = items::next_token(work, list, pass.classes());
-    match found {
-        Found::Nothing(after) => turns::over(after, pass),
-        Found::Children(after, item) => turns::enter(after, pass, item),
+    match items::next_token(work, list, pass.classes()) {
+        Found::Nothing(after) => Ok(turns::over(after, pass)),
+        Found::Children(after, item) => Ok(turns::enter(after, pass, item)),
         Found::Token(after, item) => token(work, after, pass, item),
     }
 }
 
 // The list up to the next token or node that the pass works on. An array that waits for an index comes first; a list with semicolons,
 // the unary pass and the conditional pass seek in their own way.
-fn step(work: &mut [u32], walk: Walk) -> Turn
+fn step(work: &mut [u32], walk: Walk) -> Result<Turn, Failure>
     requires { CanTurn work.old walk }
     ensures { Turned work.old walk result work.new }
 {
     let list = walk.list;
     let pass = walk.pass;
-    let waiting = pass.waiting();
-    if waiting != 0 {
-        return arrays::array_on(work, list, waiting);
+    if let Some(array) = pass.waiting() {
+        return arrays::array_on(work, list, array);
     }
     match pass {
         Pass::Split { done } => statements::step(work, list, done),
@@ -144,7 +135,7 @@ fn resume(work: &mut [u32], walk: Walk, item: u32) -> Walk
 }
 
 // A list whose items are all done.
-fn finish(work: &mut [u32], walk: Walk) -> Finished
+fn finish(work: &mut [u32], walk: Walk) -> Result<Finished, Failure>
     requires { CanFinish work.old walk }
     ensures { Ends work.old walk result work.new }
 {
@@ -152,9 +143,15 @@ fn finish(work: &mut [u32], walk: Walk) -> Finished
     let pass = walk.pass;
     match pass {
         Pass::Split { done } => statements::finish(work, list, done),
-        Pass::Unary => Finished::At(list.base + list.write, list.len - list.write),
+        Pass::Unary => Ok(Finished {
+            from: list.base + list.write,
+            items: list.len - list.write,
+        }),
         Pass::Conditional { tokens } => conditional::finish(work, list, tokens),
-        _ => Finished::At(list.base, list.write),
+        _ => Ok(Finished {
+            from: list.base,
+            items: list.write,
+        }),
     }
 }
 
@@ -174,78 +171,59 @@ fn move_down(work: &mut [u32], from: usize, n: usize, base: usize)
     requires { CanMove work.old «from» n base }
     ensures { Moved work.old «from» n base work.new }
 {
-    let mut i = 0usize;
-    while i < n {
-        work[base + i] = work[from + i];
-        i += 1;
-    }
+    work.copy_within(from..from + n, base);
 }
 
 // The end of a list: its items become its owner's children, and the list that waits for the owner goes on. The outermost
 // list starts at `base0`; its items stay there for the pass after this one, and its end is the end of the pass.
-fn close(work: &mut [u32], walk: Walk, base0: usize) -> Next
+fn close(work: &mut [u32], walk: Walk, base0: usize) -> Result<Next, Failure>
     requires { CanClose work.old walk base0 }
     ensures { Closed work.old walk base0 result work.new }
 {
-    let finished = finish(work, walk);
-    match finished {
-        Finished::Fail(failure) => Next::Fail(failure),
-        Finished::At(from, n) => {
-            let list = walk.list;
-            let ended = walk.pass;
-            let owner = list.owner;
-            let base = list.base;
-            children::give_children(work, owner, from, n);
-            if base == base0 {
-                move_down(work, from, n, base);
-                return Next::Done(n);
-            }
-            let frame = frames::pop(work, base);
-            let below = frame.list;
-            let pass = ended.resumed(frame.held);
-            Next::On(resume(work, Walk { list: below, pass }, owner))
-        }
+    let finished = finish(work, walk)?;
+    let from = finished.from;
+    let n = finished.items;
+    let list = walk.list;
+    let ended = walk.pass;
+    let owner = list.owner;
+    let base = list.base;
+    children::give_children(work, owner, from, n);
+    if base == base0 {
+        move_down(work, from, n, base);
+        return Ok(Next::Done(n));
     }
+    let frame = frames::pop(work, base);
+    let below = frame.list;
+    let pass = ended.resumed(frame.held);
+    Ok(Next::On(resume(work, Walk { list: below, pass }, owner)))
 }
 
 // One turn of the driver.
-fn advance(work: &mut [u32], walk: Walk, base0: usize) -> Next
+fn advance(work: &mut [u32], walk: Walk, base0: usize) -> Result<Next, Failure>
     requires { CanAdvance work.old walk base0 }
     ensures { Advanced work.old walk base0 result work.new }
 {
-    let stepped = step(work, walk);
-    match stepped {
-        Turn::On(after) => Next::On(after),
-        Turn::Enter(waiting, item) => Next::On(descend(work, waiting, item)),
+    match step(work, walk)? {
+        Turn::On(after) => Ok(Next::On(after)),
+        Turn::Enter(waiting, item) => Ok(Next::On(descend(work, waiting, item))),
         Turn::Over(over) => close(work, over, base0),
-        Turn::Fail(failure) => Next::Fail(failure),
     }
 }
 
-// Runs a pass over the list of slot 0, whose n items stand from `base` on, and every list below it; the stack is free above them.
-// It takes at most three turns for each node and one more, which is less than the words of the work buffer. `group::run_choice` calls it
-// with the list that the passes before it left. The fuel is there because a loop's measure is a number of the program's variables, and the
-// turns that are left are known of the trees that the words hold, not of the words; the proof shows that it never runs out.
-pub fn run(work: &mut [u32], base: usize, n: usize, pass: Pass) -> Ran
+// Runs a pass over the list of slot 0, whose n items stand from `base` on, and every list below it; the stack is free above them. How many
+// items the list of slot 0 has then. The pass takes at most three turns for each node and one more, which is less than the words of the
+// work buffer; the proof shows that the loop never runs out of them. `group::run_choice` calls it with the list that the passes before it
+// left.
+pub fn run(work: &mut [u32], base: usize, n: usize, pass: Pass) -> Result<usize, Failure>
     requires { CanRun work.old base n pass }
     ensures { HasRun work.old base n pass result work.new }
 {
     let mut walk = begin(work, ROOT, base, n, pass);
-    let mut fuel = work.len();
-    while 0 < fuel {
-        fuel -= 1;
-        let next = advance(work, walk, base);
-        match next {
-            Next::On(after) => {
-                walk = after;
-            }
-            Next::Done(left) => {
-                return Ran::Done(left);
-            }
-            Next::Fail(failure) => {
-                return Ran::Fail(failure);
-            }
+    for _ in 0..work.len() {
+        match advance(work, walk, base)? {
+            Next::On(after) => walk = after,
+            Next::Done(left) => return Ok(left),
         }
     }
-    Ran::Done(n)
+    Ok(n)
 }

@@ -4,4 +4,3 @@
 
 pub mod driver;
 pub mod group;
-pub mod grouped;

@@ -9,7 +9,10 @@ use Rattle.molang.specs.{FirstFailure.{must, first_of}, Words.{row}}
 use Rattle.molang.specs.Parse.{Call, in_front, length_rows, refusal, told, answered, tree_in, tree_after, messages_in, messages_after, work_in}
 use Rattle.molang.specs.Parse.{work_after}
 use Rattle.words.{specs.Records.{laid_at}, proofs.RecordLaws.{laid-front, laid-laid}}
-use Rattle.parse.specs.{declared.Answer.TheVariants.{Refused}, Answers.{HasParsed}}
+use Rattle.parse.specs.{Answers.{HasParsed}}
+use Rattle.std.specs.Prelude.{Result, Ok, Err, OnOk}
+use Rattle.words.specs.{Refusals.{reason_number}, declared.refusals.Reason.{Reason}}
+use Rattle.words.specs.declared.refusals.Reason.TheVariants.{ListNotWhole, TooManyTokens}
 use Rattle.own.specs.Own.{named_call, own_call}
 use Rattle.held.specs.{Held.{Edit, edited}, Editing.{CanSplice, CanEdit}}
 
@@ -79,10 +82,10 @@ row-2 : (c : Call) → length c.list % 5 ≡ 0 → 4096 < length c.list / 5 → 
 row-2 c h k = unfold refusal length_rows must first_of in rw (eq-eqb (length c.list % 5) 0 h, lt-leb (length c.list / 5) 4096 k) refl
 
 -- A call that is turned back leaves all as it was.
-pub turned-back : (c : Call) (number place : ℕ) → refusal c ≡ some (row number place)
-    → HasParsed c (Refused number place) c.tree c.messages c.work
+pub turned-back : (c : Call) (reason : Reason) (place : ℕ) → refusal c ≡ some (row (reason_number reason) place)
+    → HasParsed c (Err (record { reason = reason; place = place })) c.tree c.messages c.work
 unfolding answered told tree_after tree_in messages_after messages_in work_after work_in
-turned-back c number place e = record { told = rw e refl; tree = rw e refl; messages = rw e refl; work = rw e refl }
+turned-back c reason place e = record { told = rw e refl; tree = rw e refl; messages = rw e refl; work = rw e refl }
 
 -- An edit of a list of whole tokens, and the call that reads the list with the edit made.
 module _ (e : Edit) (new list : List ℕ) (can : CanEdit new list e) where
@@ -106,12 +109,17 @@ module _ (e : Edit) (new list : List ℕ) (can : CanEdit new list e) where
     abbrev called : Call
     called = own_call (edited e list) tree messages work version limit
 
-    pub not-whole : (length e.put % 5 ≡ 0 → ⊥) → HasParsed called (Refused 1 0) tree messages work
+    pub not-whole : (length e.put % 5 ≡ 0 → ⊥) → HasParsed called (Err (record { reason = ListNotWhole; place = 0 })) tree messages work
     unfolding own_call named_call
-    not-whole h = turned-back called 1 0 (row-1 called (λ w. h (sym (edited-whole e list can.within can.whole) ∙ w)))
+    not-whole h = turned-back called ListNotWhole 0 (row-1 called (λ w. h (sym (edited-whole e list can.within can.whole) ∙ w)))
 
-    pub too_many : length e.put % 5 ≡ 0 → 4096 - kept < length e.put / 5 → HasParsed called (Refused 2 0) tree messages work
+    pub too_many : length e.put % 5 ≡ 0 → 4096 - kept < length e.put / 5 → HasParsed called (Err (record { reason = TooManyTokens; place = 0 })) tree messages work
     unfolding own_call named_call
     too_many h k =
         let tokens = edited-tokens e list can.within can.whole in
-        turned-back called 2 0 (row-2 called (edited-whole e list can.within can.whole ∙ h) (omega (arith, tokens)))
+        turned-back called TooManyTokens 0 (row-2 called (edited-whole e list can.within can.whole ∙ h) (omega (arith, tokens)))
+
+-- What holds anyway holds of an `Ok`.
+pub always : {T E P : Type 0} (r : Result T E) → P → OnOk r P
+always (Ok x) p = p
+always (Err e) p = tt

@@ -1,11 +1,11 @@
 -- Where an ask or a commit is turned back before the new list is looked at, row by row; what an edit has that these rows let through; and
 -- that the definition's rows are these and then the entry's. Assumes nothing.
 use Prim.Native.Nat.{ℕ, ◌-◌, ◌≤◌, ◌<◌}
-use mathlib.Core.{Path.{◌≡◌, refl, ap, sym, ◌∙◌}, List.{List, [], ◌∷◌}, Option.{Option, none, some}}
-use lib.ListN.{length}
+use mathlib.Core.{Bool.{Bool, true, false}, Path.{◌≡◌, refl, ap, sym, ◌∙◌}, List.{List, [], ◌∷◌}, Option.{Option, none, some}}
+use lib.{Dec.{ltb}, ListN.{length}}
 use borrow.Author.Tests.{leb-true, ltb-true, le-leb, lt-leb, lt-ltb, le-ltb, eq-eqb, ne_eqb}
 use Rattle.molang.specs.{FirstFailure.{must, first_of}, Words.{Refusal, row}, Parse.{refusal}}
-use Rattle.molang.proofs.{FirstFailure.{must-none, first-none, then-none, found, last_one, after_none, in_parts, behind}, Trees.{both}}
+use Rattle.molang.proofs.{FirstFailure.{must-none, first-none, then-none, found, last_one, after_none, in_parts}, Trees.{both}}
 use Rattle.held.specs.declared.Held.{Held}
 use Rattle.held.specs.Held.{State, Edit, Lent, slice_row, claim_row, seen_row, edit_row, count_row, edit_call, ask_refusal, commit_refusal}
 use Rattle.held.specs.Editing.{claim_fault, edit_fault, ask_fault, commit_fault}
@@ -52,39 +52,33 @@ module _ (h : Held) where
   pub count_next : h.edits < 4294967295 → none ≡ count_row h
   count_next p = unfold count_row must in rw (lt-ltb h.edits 4294967295 p) refl
 
+  pub count-place : {number place : ℕ} → some (row number place) ≡ count_row h → place ≡ 0
+  unfolding count_row must
+  count-place e = by (ltb h.edits 4294967295) e
+    where
+      place-of : Option Refusal → ℕ
+      place-of none = 0
+      place-of (some r) = r.place
+
+      by : (b : Bool) {number place : ℕ} → some (row number place) ≡ must b (row 23 0) → place ≡ 0
+      by true k = ap place-of k
+      by false k = ap place-of k
+
   pub next-count : none ≡ count_row h → h.edits < 4294967295
   next-count e = unfold count_row in ltb-true _ _ (must-none _ _ (sym e))
 
--- ---- One row before others
+-- ---- One row after another
 
--- Checks behind the first, as one of them all.
-behind-first : (o : Option Refusal) (later : List (Option Refusal)) → first_of (o ∷ first_of later ∷ []) ≡ first_of (o ∷ later)
-behind-first o later = behind o (first_of later ∷ []) later (last_one (first_of later))
+-- A row that answers, and one that does not.
+pub stops : {o : Option Refusal} {r : Refusal} (later : List (Option Refusal)) → some r ≡ o → some r ≡ first_of (o ∷ later)
+stops later h = sym (found _ _ later (sym h))
 
--- An ask: the claim's, then the edit's.
-pub ask-first : (s : State) (place removed : ℕ) {claimed edited r : Option Refusal} → claimed ≡ claim_fault s
-    → edited ≡ edit_fault s.held place removed
-    → r ≡ first_of (claimed ∷ edited ∷ [])
-    → r ≡ ask_fault s place removed
-ask-first s place removed p q e = unfold ask_fault in e ∙ (λ i. first_of (p i ∷ q i ∷ []))
+pub goes-on : {o x : Option Refusal} (later : List (Option Refusal)) → none ≡ o → x ≡ first_of later → x ≡ first_of (o ∷ later)
+goes-on later h e = unfold first_of in rw (← h) e
 
--- A commit: the claim's, the edit count's, the edit's, and whether there is a next count.
-pub commit-first : (s : State) (seen place removed : ℕ) {claimed other edited last late rest r : Option Refusal} → claimed ≡ claim_fault s
-    → other ≡ seen_row s seen
-    → edited ≡ edit_fault s.held place removed
-    → last ≡ count_row s.held
-    → late ≡ first_of (edited ∷ last ∷ [])
-    → rest ≡ first_of (other ∷ late ∷ [])
-    → r ≡ first_of (claimed ∷ rest ∷ [])
-    → r ≡ commit_fault s seen place removed
-unfolding commit_fault
-commit-first s seen place removed {other = other} {rest = rest} p q u v x y z =
-    let later : rest ≡ first_of (seen_row s seen ∷ edit_fault s.held place removed ∷ count_row s.held ∷ []) =
-    y
-    ∙ (ap (λ (o : Option Refusal). first_of (other ∷ o ∷ [])) x
-    ∙ (behind-first other _ ∙ (λ i. first_of (q i ∷ u i ∷ v i ∷ []))))
-    in
-    z ∙ ((λ i. first_of (p i ∷ later i ∷ [])) ∙ behind-first (claim_fault s) _)
+-- The last row.
+pub at-last : {o x : Option Refusal} → x ≡ o → x ≡ first_of (o ∷ [])
+at-last e = e ∙ sym (last_one _)
 
 -- ---- What is let through
 

@@ -1,60 +1,39 @@
--- A list that is kept where the entry accepted it: when that is, what it comes to, and the slice after it. Assumes nothing.
-use Prim.Native.Nat.{ℕ, ◌*◌}
-use mathlib.Core.{Path.{◌≡◌, refl, sym, subst}, List.{List}, Option.{Option, none, some}}
-use native.Mathlib.Omega.{arith}
-use lib.ListN.{take}
-use Rattle.molang.specs.{Words.{Refusal}, Read.{Answer, tree, messages}}
-use Rattle.molang.specs.Parse.{Call, Told, a_tree, some_messages, refused, refusal, reading, told, answered, in_front}
-use Rattle.molang.proofs.Trees.{some-none}
-use Rattle.held.specs.{declared.Held.{Held}, Held.{State}, Answers.{outcome}, Editing.{Accepts, CanKeep, kept, kept_tokens}}
+-- Where the entry turned a call back, by what it told of it; and the words of a list that is kept. Assumes nothing.
+use Prim.Native.Nat.{ℕ}
+use mathlib.Core.{Path.{◌≡◌, refl, ap, sym, ◌∙◌}, List.{List, ◌++◌}, Option.{Option, none, some}}
+use lib.ListN.{length, take, drop}
+use Rattle.std.specs.Prelude.{Ok}
+use borrow.Rule.Slice.PartMut.{put_mid}
+use Rattle.words.specs.Records.{laid_at}
+use Rattle.molang.specs.{Words.{Refusal, row}, Read.{Answer, tree, messages}}
+use Rattle.molang.specs.Parse.{refused, told, in_front}
+use Rattle.molang.proofs.HandedTree.{front-words}
+use Rattle.parse.specs.{declared.Answer.{Answer as Answered}, declared.Answer.TheVariants.{Tree, Messages}, Answers.{told_of}}
 
--- ---- A tree or messages are told of the calls that are not turned back, and of no others
-
-accepts-none : (o : Option Refusal) (a : Answer) → Accepts (told o a) → o ≡ none
+-- A tree or messages are told of the calls that are not turned back, and of no others.
+pub told-accepted : (o : Option Refusal) (a : Answer) (answer : Answered) → told_of (Ok answer) ≡ told o a → o ≡ none
 unfolding told
-accepts-none none a h = refl
-accepts-none (some r) a h = absurd h
+told-accepted none a answer e = refl
+told-accepted (some r) a (Tree nodes) e = cc
+told-accepted (some r) a (Messages records) e = cc
 
-none-accepts : (o : Option Refusal) (a : Answer) → o ≡ none → Accepts (told o a)
+pub told-refused : (o : Option Refusal) (a : Answer) {number place : ℕ} → refused number place ≡ told o a → o ≡ some (row number place)
 unfolding told
-none-accepts none (tree k cs) e = tt
-none-accepts none (messages ms) e = tt
-none-accepts (some r) a e = some-none e
+told-refused none (tree k cs) e = cc
+told-refused none (messages ms) e = cc
+told-refused (some r) a {number} {place} e =
+    let p : r.number ≡ number = cc in let q : r.place ≡ place = cc in (λ i. some (row (p i) (q i)))
 
-module _ (c : Call) (t : Told) (e : t ≡ answered c) where
-  pub unrefused : Accepts t → refusal c ≡ none
-  unrefused h = unfold answered in accepts-none (refusal c) (reading c) (subst (λ (u : Told). Accepts u) e h)
+-- The front of an array, put over the front of the slice.
+pub kept-front : (list new slice : List ℕ) {new' : List ℕ} {kept : ℕ} → kept ≡ length list → new' ≡ in_front list new
+    → take kept new' ++ drop kept slice ≡ in_front list slice
+unfolding in_front
+kept-front list new slice {new'} {kept} k e =
+    ap (λ (l : List ℕ). l ++ drop kept slice) (ap (take kept) e ∙ front-words list new kept (sym k))
+    ∙ ap (λ (n : ℕ). list ++ drop n slice) k
 
-  pub accepts : refusal c ≡ none → Accepts t
-  accepts h = unfold answered in subst (λ (u : Told). Accepts u) (sym e) (none-accepts (refusal c) (reading c) h)
-
--- ---- What is kept
-
-pub kept-outcome : (o : Option Refusal) (a : Answer) (h : Held) → kept (told o a) h ≡ outcome o (told o a) h
-unfolding told kept outcome
-kept-outcome none (tree k cs) h = refl
-kept-outcome none (messages ms) h = refl
-kept-outcome (some r) a h = refl
-
--- The slice as it was, or the words in front of it.
-pub kept-slice : (o : Option Refusal) (a : Answer) (tokens : ℕ) (list slice front : List ℕ)
-    → (o ≡ none → in_front (take (5 * tokens) list) slice ≡ front)
-    → in_front (take (5 * kept_tokens (told o a) tokens) list) slice ≡ (elim o as (λ o. List ℕ) [ some r ↦ slice | none ↦ front ])
-unfolding told kept_tokens in_front
-kept-slice none (tree k cs) tokens list slice front h = h refl
-kept-slice none (messages ms) tokens list slice front h = h refl
-kept-slice (some r) a tokens list slice front h = refl
-
--- There is room for as many as are kept: for none where the list is turned back.
-pub can-keep : (t : Told) (tokens : ℕ) (slice list : List ℕ) → (Accepts t → CanKeep tokens slice list)
-    → CanKeep (kept_tokens t tokens) slice list
-unfolding kept_tokens
-can-keep (a_tree nodes) tokens slice list h = h tt
-can-keep (some_messages records) tokens slice list h = h tt
-can-keep (refused number place) tokens slice list h = record { words = omega arith; room = omega arith }
-
--- The slice of the state before or after.
-pub slice_of : (o : Option Refusal) (s next : State)
-    → (elim o as (λ o. List ℕ) [ some r ↦ s.slice | none ↦ next.slice ]) ≡ (elim o as (λ o. State) [ some r ↦ s | none ↦ next ]).slice
-slice_of none s next = refl
-slice_of (some r) s next = refl
+-- Words put into a buffer from a place on, of which they are so many.
+pub copied : (at : ℕ) (from to : List ℕ) {k : ℕ} {part : List ℕ} → k ≡ length from → part ≡ from
+    → put_mid at k to part ≡ laid_at at from to
+unfolding laid_at in_front
+copied at from to e f = rw (f, e) refl

@@ -6,7 +6,9 @@ use native.Mathlib.Omega.{arith}
 use lib.{IntN.{ℤ}, ListN.{take}}
 use Rattle.molang.specs.{Words.{Refusal}, Read.{Answer}, Parse.{Told, reading, told, answered, tree_after, messages_after, work_after}}
 use Rattle.parse.specs.{declared.Answer.{Answer as Answered}, Answers.{told_of, HasParsed}}
-use Rattle.held.specs.{declared.Held.{Held}, declared.Change.{Change}, declared.Adopted.{Adopted}}
+use Rattle.std.specs.Prelude.{Result}
+use Rattle.words.specs.declared.refusals.Refusal as code
+use Rattle.held.specs.{declared.Held.{Held}, declared.Change.{Change}}
 use Rattle.held.specs.Held.{State, Edit, Lent, Act, held_list, lent_call, left_by, open_refusal, commit_refusal, open_left, ask_left}
 use Rattle.held.specs.Held.{commit_left, count_row, edit_call, opened, with_edit, committed, with_version, adopted, commits, adopts}
 use Rattle.held.specs.{Held.{stepped, after, edits_made, version_set}, Histories.{nothing, SameLent, AsAsked}}
@@ -29,7 +31,7 @@ outcome-holds none t u h k e = (refl, cc)
 outcome-holds (some r) t u h k e = absurd (let z : ◌≡◌ {A = ℕ} 0 1 = cc in omega arith)
 
 -- A commit.
-module _ {s : State} {seen : ℕ} {e : Edit} {l : Lent} {r : Change} {slice' tree' messages' work' : List ℕ}
+module _ {s : State} {seen : ℕ} {e : Edit} {l : Lent} {r : Result Change code.Refusal} {slice' tree' messages' work' : List ℕ}
     (h : HasCommitted s seen e l r slice' tree' messages' work') where
   pub commit-steps : state (held_by (outcome_of r) s.held) slice' ≡ stepped s (commits seen e l)
   unfolding stepped committed
@@ -49,7 +51,7 @@ module _ {s : State} {seen : ℕ} {e : Edit} {l : Lent} {r : Change} {slice' tre
   commit-told = ap told_by h.outcomes ∙ outcome-told (commit_refusal s seen e l) (reading (edit_call s e l)) (with_edit s e).held
 
 -- A version change.
-pub adopt-steps : (s : State) (version : ℤ) (r : Adopted) → adopt_of r ≡ adopt_outcome (count_row s.held) (with_version s.held version)
+pub adopt-steps : (s : State) (version : ℤ) (r : Result Held code.Refusal) → adopt_of r ≡ adopt_outcome (count_row s.held) (with_version s.held version)
     → state (held_by_adopting (adopt_of r) s.held) s.slice ≡ stepped s (adopts version)
 unfolding stepped adopted
 adopt-steps s version r h =
@@ -71,7 +73,7 @@ ran-after (then_commits s seen e l r slice' tree' messages' work' h {later} run)
 ran-after (then_adopts s version r h {later} run) = ran-after run ∙ ap (λ (t : State). after t later) (adopt-steps s version r h)
 
 -- An opening tells what its call is told.
-pub open_told : {slice list : List ℕ} {l : Lent} {version : ℤ} {r : Change} {slice' tree' messages' work' : List ℕ}
+pub open_told : {slice list : List ℕ} {l : Lent} {version : ℤ} {r : Result Change code.Refusal} {slice' tree' messages' work' : List ℕ}
     → HasOpened slice list l version r slice' tree' messages' work'
     → told_by (outcome_of r) ≡ (open_left slice list l version).told
 unfolding open_left left_by
@@ -81,7 +83,7 @@ open_told {slice} {list} {l} {version} h =
 
 -- ---- From an accepted opening on
 
-module _ {slice list : List ℕ} {l : Lent} {version : ℤ} {r : Change} {slice' tree' messages' work' : List ℕ}
+module _ {slice list : List ℕ} {l : Lent} {version : ℤ} {r : Result Change code.Refusal} {slice' tree' messages' work' : List ℕ}
     (h : HasOpened slice list l version r slice' tree' messages' work') {t : Told} {held : Held}
     (accepted : outcome_of r ≡ holds t held) where
   unrefused : (open_refusal slice list l version ≡ none) × ((opened slice list version).held ≡ held)
@@ -104,7 +106,7 @@ module _ {slice list : List ℕ} {l : Lent} {version : ℤ} {r : Change} {slice'
     words_are = ap held_list ran ∙ words-held slice list l version unrefused.0 acts
 
     -- AN ASK THAT CHANGES NOTHING is answered as reading them afresh at the version last set.
-    pub asked-afresh : {lent : Lent} {a : Answered} {t' m' w' : List ℕ} → HasAsked s nothing lent a t' m' w'
+    pub asked-afresh : {lent : Lent} {a : Result Answered code.Refusal} {t' m' w' : List ℕ} → HasAsked s nothing lent a t' m' w'
         → HasParsed (lent_call (edits_made (opened slice list version) acts list) lent (version_set (opened slice list version) acts version))
         a t' m' w'
     unfolding left_by answered tree_after messages_after work_after
@@ -119,7 +121,7 @@ module _ {slice list : List ℕ} {l : Lent} {version : ℤ} {r : Change} {slice'
 
 -- AS ASKED: whatever calls come between an ask and an accepted commit of the same edit that names the edit count seen when asking, the
 -- commit tells what the ask told, and leaves the same tree or messages, over buffers of the same lengths and the same limit.
-pub committed-as-asked : {s last : State} {e : Edit} {lent again : Lent} {acts : List Act} {seen : ℕ} {a : Answered} {r : Change}
+pub committed-as-asked : {s last : State} {e : Edit} {lent again : Lent} {acts : List Act} {seen : ℕ} {a : Result Answered code.Refusal} {r : Result Change code.Refusal}
     {t m w slice' t' m' w' : List ℕ}
     → HasAsked s e lent a t m w → Ran s acts last → HasCommitted last seen e again r slice' t' m' w' → seen ≡ s.held.edits
     → SameLent lent again

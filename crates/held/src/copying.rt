@@ -2,14 +2,10 @@
 ghost use Rattle.std.specs.Prelude.{◌≡◌, ◌+◌, ◌≤◌, length};
 ghost use Rattle.words.specs.Records.{laid_at};
 
-// Copies words to those from `at` on. `splice` and `keep_words` have room for them.
+// Copies words to those from `at` on. `splice` has room for them.
 pub fn copy_words(from: &[u32], to: &mut [u32], at: usize)
     requires { at + length from.now ≤ length to.old }
     ensures { to.new ≡ laid_at at from.now to.old }
 {
-    let mut i = 0usize;
-    while i < from.len() {
-        to[at + i] = from[i];
-        i += 1;
-    }
+    to[at..at + from.len()].copy_from_slice(from);
 }

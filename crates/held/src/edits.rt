@@ -1,17 +1,19 @@
-// The held list with an edit made: its words in an array of their own, and what they read as. Leans on own (the reading), parse (its
+// The held list with an edit made: its words in an array of their own, what they read as, and the held numbers after it. Leans on own (the reading), parse (its
 // answer) and words; specs/Held has the edit.
-ghost use Rattle.std.specs.Prelude.{◌≡◌, length};
+ghost use Rattle.std.specs.Prelude.{◌≡◌, length, OnOk};
 ghost use Rattle.own.specs.Own.{own_call};
 ghost use Rattle.molang.specs.Parse.{in_front};
-ghost use Rattle.parse.specs.Answers.{told_of, HasParsed};
+ghost use Rattle.parse.specs.Answers.{HasParsed};
 ghost use Rattle.held.specs.Held.{edited};
 ghost use Rattle.held.specs.Answers.{edit};
-ghost use Rattle.held.specs.Editing.{CanSplice, CanEdit, Accepts};
+ghost use Rattle.held.specs.Editing.{CanSplice, CanEdit, CanCount, counted};
 
+use crate::Held;
 use crate::copying::copy_words;
 use own::read_own;
 use parse::Answer;
-use words::{fields, refusals};
+use words::fields;
+use words::refusals::{Reason, Refusal};
 
 // Lays the list with the edit made in front of `new`; how many words it has. `read_edited` has seen that there is room.
 fn splice(new: &mut [u32], list: &[u32], place: usize, removed: usize, put: &[u32]) -> usize
@@ -42,22 +44,33 @@ pub fn read_edited(
     work: &mut [u32],
     version: i16,
     limit: u32,
-) -> Answer
+) -> Result<Answer, Refusal>
     requires { CanEdit new.old list.now (edit place removed put.now) }
     ensures has_parsed { HasParsed
         (own_call (edited (edit place removed put.now) list.now)
         tree.old messages.old work.old version limit)
         result tree.new messages.new work.new }
-    ensures after { Accepts (told_of result)
-        → new.new ≡ in_front (edited (edit place removed put.now) list.now) new.old }
+    ensures after { OnOk result (new.new ≡ in_front (edited (edit place removed put.now) list.now) new.old) }
 {
     if put.len() % fields::TOKEN_WORDS != 0 {
-        return Answer::Refused(refusals::LIST_NOT_WHOLE, 0);
+        return Err(Reason::ListNotWhole.at(0));
     }
     let kept = list.len() / fields::TOKEN_WORDS - removed;
     if fields::MOST_TOKENS - kept < put.len() / fields::TOKEN_WORDS {
-        return Answer::Refused(refusals::TOO_MANY_TOKENS, 0);
+        return Err(Reason::TooManyTokens.at(0));
     }
     let n = splice(new, list, place, removed, put);
     read_own(&new[..n], tree, messages, work, version, limit)
+}
+
+// The held numbers with an edit made. `commit_edit` calls it if none of its own rows has answered.
+pub fn with_edit(held: Held, removed: usize, put: &[u32]) -> Held
+    requires { CanCount held removed }
+    ensures { result ≡ counted held removed (length put.now) }
+{
+    Held {
+        tokens: held.tokens - removed + put.len() / fields::TOKEN_WORDS,
+        version: held.version,
+        edits: held.edits + 1,
+    }
 }

@@ -6,18 +6,17 @@
 mod copying;
 mod edits;
 mod faults;
-mod keeping;
 
-ghost use Rattle.std.specs.Prelude.{◌≡◌};
+ghost use Rattle.std.specs.Prelude.{◌≡◌, IfErr};
 ghost use Rattle.held.specs.Held.{count_row, with_version};
 ghost use Rattle.held.specs.Answers.{adopt_of, adopt_outcome, lent, edit, state, HasOpened, HasAsked, HasCommitted};
 
-use crate::edits::read_edited;
-use crate::faults::{Fault, ask_fault, commit_fault, count_fault};
-use crate::keeping::{keep, with_edit};
+use crate::edits::{read_edited, with_edit};
+use crate::faults::{ask_fault, commit_fault, count_fault};
 use own::read_own;
 use parse::Answer;
-use words::{fields, refusals};
+use words::fields;
+use words::refusals::{Reason, Refusal};
 
 // The words of the slice for a held list: those of 4,096 tokens.
 pub const HELD_WORDS: usize = 20_480;
@@ -33,20 +32,12 @@ pub struct Held {
     pub edits: u32,
 }
 
-// What an opening or a commit comes to: a tree of so many nodes or so many messages, with the held numbers after it, or a refusal's number
-// and place, which leaves all that is held as it was.
+// What an opening or a commit comes to, unless it is turned back, which leaves all that is held as it was: what the list reads as, with the
+// held numbers after it.
 #[derive(Clone, Copy)]
-pub enum Change {
-    Tree(usize, Held),
-    Messages(usize, Held),
-    Refused(u32, usize),
-}
-
-// What a version change comes to.
-#[derive(Clone, Copy)]
-pub enum Adopted {
-    Changed(Held),
-    Refused(u32),
+pub struct Change {
+    pub answer: Answer,
+    pub held: Held,
 }
 
 // Opens a list that the parse entry accepts, and answers as that does.
@@ -58,21 +49,22 @@ pub fn open_list(
     work: &mut [u32],
     version: i16,
     limit: u32,
-) -> Change
+) -> Result<Change, Refusal>
     ensures { HasOpened words.old list.now
         (lent tree.old messages.old work.old limit) version
         result words.new tree.new messages.new work.new }
 {
     if words.len() < HELD_WORDS {
-        return Change::Refused(refusals::SHORT_LIST, 0);
+        return Err(Reason::ShortList.at(0));
     }
-    let answer = read_own(list, tree, messages, work, version, limit);
+    let answer = read_own(list, tree, messages, work, version, limit)?;
+    words[..list.len()].copy_from_slice(list);
     let held = Held {
         tokens: list.len() / fields::TOKEN_WORDS,
         version,
         edits: 0,
     };
-    keep(answer, held, words, list)
+    Ok(Change { answer, held })
 }
 
 // What the held list would read as with an edit made; nothing held changes. The new list stands in an array of its own, 80 KiB of call
@@ -87,15 +79,12 @@ pub fn ask_edit(
     messages: &mut [u32],
     work: &mut [u32],
     limit: u32,
-) -> Answer
+) -> Result<Answer, Refusal>
     ensures { HasAsked (state held words.now) (edit place removed put.now)
         (lent tree.old messages.old work.old limit)
         result tree.new messages.new work.new }
 {
-    let fault = ask_fault(held, words, place, removed);
-    if let Fault::Refused(number) = fault {
-        return Answer::Refused(number, 0);
-    }
+    ask_fault(held, words, place, removed)?;
     let mut new = [0u32; HELD_WORDS];
     let end = fields::TOKEN_WORDS * held.tokens;
     read_edited(
@@ -124,15 +113,12 @@ pub fn commit_edit(
     messages: &mut [u32],
     work: &mut [u32],
     limit: u32,
-) -> Change
+) -> Result<Change, Refusal>
     ensures { HasCommitted (state held words.old) seen (edit place removed put.now)
         (lent tree.old messages.old work.old limit)
         result words.new tree.new messages.new work.new }
 {
-    let fault = commit_fault(held, seen, words, place, removed);
-    if let Fault::Refused(number) = fault {
-        return Change::Refused(number, 0);
-    }
+    commit_fault(held, seen, words, place, removed)?;
     let mut new = [0u32; HELD_WORDS];
     let end = fields::TOKEN_WORDS * held.tokens;
     let answer = read_edited(
@@ -146,20 +132,20 @@ pub fn commit_edit(
         work,
         held.version,
         limit,
-    );
+    )?;
     let next = with_edit(held, removed, put);
-    keep(answer, next, words, &new)
+    let kept = fields::TOKEN_WORDS * next.tokens;
+    words[..kept].copy_from_slice(&new[..kept]);
+    Ok(Change { answer, held: next })
 }
 
 // Adopts the rules of a version over the same words, reads nothing.
-pub fn adopt_version(held: Held, version: i16) -> Adopted
-    ensures { adopt_of result ≡ adopt_outcome (count_row held) (with_version held version) }
+pub fn adopt_version(held: Held, version: i16) -> Result<Held, Refusal>
+    ensures outcomes { adopt_of result ≡ adopt_outcome (count_row held) (with_version held version) }
+    ensures place { IfErr result (λ r. r.place ≡ 0) }
 {
-    let fault = count_fault(held);
-    if let Fault::Refused(number) = fault {
-        return Adopted::Refused(number);
-    }
-    Adopted::Changed(Held {
+    count_fault(held)?;
+    Ok(Held {
         tokens: held.tokens,
         version,
         edits: held.edits + 1,

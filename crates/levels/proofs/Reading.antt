@@ -4,8 +4,9 @@ use Prim.Native.Nat.{ℕ, ◌+◌, ◌≤◌, ◌<◌}
 use mathlib.Core.{Path.{◌≡◌, refl, sym, ap, ◌∙◌, subst, subst₂}, Logic.{◌≢◌}, Bool.{Bool, true, false, not, ◌&&◌, true≢false}}
 use mathlib.Core.List.{List, ◌∷◌}
 use native.Mathlib.{Omega.{arith}, Decide.{ℕ_discrete}}
-use lib.{ListN.{length}, Dec.{eqb}}
+use lib.{ListN.{length}}
 use borrow.Author.Tests.{eq-eqb, ne_eqb, not-true, not-false}
+use Rattle.std.specs.Prelude.{Option, None, Some}
 use Rattle.molang.specs.{Forest.{Token, Forest, nil, node}, Free.{free, is_nil}}
 use Rattle.ops.specs.Classes.{shares}
 use Rattle.nodes.specs.Store.{wd, slot_words, slot_start, slot_end, classes_at, Seg, Out, RepF, ends, more, RepT, put, InArray}
@@ -169,39 +170,30 @@ inner-tree {W} {b = b} {k = k} (node d ds r) c P e t =
 -- ---- `next_if`
 
 module _ (W : List ℕ) (l : Items) (op : ℕ) where
-  item-if : ℕ
-  item-if = elim (eqb (op_at W (wd W (l.base + l.read))) op) [ true ↦ wd W (l.base + l.read) | false ↦ 0 ]
+  pub next-if-end : l.read ≡ l.len → None ≡ next_if W l op
+  next-if-end e = unfold next_if in rw (eq-eqb l.read l.len e) refl
 
-  pub next-if-end : l.read ≡ l.len → 0 ≡ next_if W l op
-  next-if-end e = unfold next_if item-if in sym (when_true (eqb l.read l.len) 0 item-if (eq-eqb l.read l.len e))
+  pub next-if-found : l.read ≢ l.len → op_at W (wd W (l.base + l.read)) ≡ op → Some (wd W (l.base + l.read)) ≡ next_if W l op
+  unfolding next_if
+  next-if-found e h = rw (ne_eqb l.read l.len e, eq-eqb (op_at W (wd W (l.base + l.read))) op h) refl
 
-  pub next-if-found : l.read ≢ l.len → op_at W (wd W (l.base + l.read)) ≡ op → wd W (l.base + l.read) ≡ next_if W l op
-  unfolding next_if item-if
-  next-if-found e h =
-      sym (when_false (eqb l.read l.len) 0 item-if (ne_eqb l.read l.len e)
-      ∙ when_true (eqb (op_at W (wd W (l.base + l.read))) op) (wd W (l.base + l.read)) 0
-      (eq-eqb (op_at W (wd W (l.base + l.read))) op h))
-
-  pub next-if-other : l.read ≢ l.len → op_at W (wd W (l.base + l.read)) ≢ op → 0 ≡ next_if W l op
-  unfolding next_if item-if
-  next-if-other e h =
-      sym (when_false (eqb l.read l.len) 0 item-if (ne_eqb l.read l.len e)
-      ∙ when_false (eqb (op_at W (wd W (l.base + l.read))) op) (wd W (l.base + l.read)) 0
-      (ne_eqb (op_at W (wd W (l.base + l.read))) op h))
+  pub next-if-other : l.read ≢ l.len → op_at W (wd W (l.base + l.read)) ≢ op → None ≡ next_if W l op
+  unfolding next_if
+  next-if-other e h = rw (ne_eqb l.read l.len e, ne_eqb (op_at W (wd W (l.base + l.read))) op h) refl
 
 -- What `next_if` answers of the unread trees: nothing is left, the next one has another operator, or it is the item.
-pub data NextTo (W X : List ℕ) (l : Items) (lo hi op : ℕ) : ℕ → Forest → Type 0 where
-  ended : l.read ≡ l.len → NextTo W X l lo hi op 0 nil
-  differs : {k : Token} {cs rest : Forest} → l.read < l.len → k.op ≢ op → NextTo W X l lo hi op 0 (node k cs rest)
+pub data NextTo (W X : List ℕ) (l : Items) (lo hi op : ℕ) : Option ℕ → Forest → Type 0 where
+  ended : l.read ≡ l.len → NextTo W X l lo hi op None nil
+  differs : {k : Token} {cs rest : Forest} → l.read < l.len → k.op ≢ op → NextTo W X l lo hi op None (node k cs rest)
   found : {b a m : ℕ} {k : Token} {cs rest : Forest} → l.read < l.len → k.op ≡ op → 0 < b → lo ≤ a → RepT W X b a m k cs
-      → Ahead W X l.base (l.read + 1) l.len m hi rest → NextTo W X l lo hi op b (node k cs rest)
+      → Ahead W X l.base (l.read + 1) l.len m hi rest → NextTo W X l lo hi op (Some b) (node k cs rest)
 
 pub next-to : {W X : List ℕ} {lo hi : ℕ} {f : Forest} (l : Items) (op : ℕ) → Ahead W X l.base l.read l.len lo hi f
     → NextTo W X l lo hi op (next_if W l op) f
 next-to {W} {X} {lo} {hi} {f} l op v =
     elim (ℕ_discrete l.read l.len) [
       | yes e ↦
-          subst₂ (λ (x : ℕ) (g : Forest). NextTo W X l lo hi op x g) (next-if-end W l op e) (sym (ahead-end f (omega arith) v)) (ended e)
+          subst₂ (λ (x : Option ℕ) (g : Forest). NextTo W X l lo hi op x g) (next-if-end W l op e) (sym (ahead-end f (omega arith) v)) (ended e)
       | no n ↦ go n (ahead-item (wd W (l.base + l.read)) refl (omega (arith, (ahead-le v).1)) v)
     ]
   where
@@ -210,10 +202,10 @@ next-to {W} {X} {lo} {hi} {f} l op v =
     go n (item {k = k} {cs = cs} {rest = rest} low t r) =
         elim (ℕ_discrete k.op op) [
           | yes e ↦
-              subst (λ (x : ℕ). NextTo W X l lo hi op x (node k cs rest)) (next-if-found W l op n (tree-op t ∙ e))
+              subst (λ (x : Option ℕ). NextTo W X l lo hi op x (node k cs rest)) (next-if-found W l op n (tree-op t ∙ e))
               (found (omega (arith, (ahead-le v).1)) e t.pos low t r)
           | no h ↦
-              subst (λ (x : ℕ). NextTo W X l lo hi op x (node k cs rest)) (next-if-other W l op n (λ e. h (sym (tree-op t) ∙ e)))
+              subst (λ (x : Option ℕ). NextTo W X l lo hi op x (node k cs rest)) (next-if-other W l op n (λ e. h (sym (tree-op t) ∙ e)))
               (differs (omega (arith, (ahead-le v).1)) h)
         ]
 

@@ -1,6 +1,6 @@
 -- The loop of `next_token`: what holds at its test, a turn that passes over an item, and where it stops.
 use Prim.Native.Nat.{ℕ, ◌+◌, ◌^◌, ◌≤◌, ◌<◌}
-use mathlib.Core.{Path.{◌≡◌, refl, sym, ◌∙◌, subst}, Logic.{◌⊎◌, ⊎_elim}, Bool.{Bool, true, false, true≢false}, List.{List, []}}
+use mathlib.Core.{Path.{◌≡◌, refl, sym, ap, ◌∙◌, subst}, Logic.{◌⊎◌, ⊎_elim}, Bool.{Bool, true, false, true≢false}, List.{List, []}}
 use native.Mathlib.{Omega.{arith}, Nat.{le_refl}}
 use lib.ListN.{length, set}
 use Rattle.molang.specs.{Forest.{Token, Forest, nil, node}, Free.{free, is_nil}}
@@ -205,6 +205,7 @@ module _ {W : List ℕ} {l : Items} {c : ℕ} {Z : List ℕ} {read write : ℕ} 
   sought-tree h f leafy l' el =
       rw el (record { to = λ g P e. seek-tree (v.at g P e) h c e f leafy; same = v.same; long = v.long })
 
-  pub sought-none : l.len ≤ read → (l' : Items) → l' ≡ moved_to l read write → Sought W l c (Nothing l') Z
-  sought-none h l' el =
-      rw el (record { to = λ g P e. seek-none (v.at g P e) h; same = v.same; long = v.long })
+  pub sought-end : l.len ≤ read → (l' : Items) → l' ≡ moved_to l l.len write → Sought W l c (Nothing l') Z
+  sought-end h l' el =
+      let last : l.len ≡ read = omega (arith, v.within) in
+      rw (el ∙ ap (λ (n : ℕ). moved_to l n write) last) (record { to = λ g P e. seek-none (v.at g P e) h; same = v.same; long = v.long })

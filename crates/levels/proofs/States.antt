@@ -1,10 +1,11 @@
 -- The states of a pass and the words of a frame: what is read back is what was kept.
 use Prim.Native.Nat.{ℕ, ◌+◌, ◌≤◌}
-use mathlib.Core.{Path.{◌≡◌, refl, sym, ap}, Logic.{◌≢◌}, Bool.{Bool, true, false, true≢false}, List.{List, [], ◌∷◌}}
+use mathlib.Core.{Path.{◌≡◌, refl, sym, ap, ◌∙◌}, Logic.{◌≢◌}, Bool.{Bool, true, false, not, true≢false}, List.{List, [], ◌∷◌}}
 use types.Run.{OneOf, miss}
 use denote.Enum.Declared.{tag_of}
 use lib.{Dec.{eqb}, ListN.{length}}
 use borrow.Author.Tests.{eq-eqb, ne_eqb}
+use Rattle.std.specs.{Prelude.{None, Some, if◌then◌else◌}, Bool.{then_some}}
 use Rattle.molang.specs.{Forest.{Forest}, Work.{Kind, State}}
 use Rattle.nodes.specs.{declared.frames.Held.{Held}, Store.{slot_start}}
 use Rattle.levels.specs.{Passes.{Runs}, declared.turns.Walk.{Walk}, Sides.{DoneSide, UnreadSide, Agrees, Sides, AtTurn, Holds}}
@@ -41,7 +42,7 @@ held_none (Conditional tokens) h = absurd (miss (0 ∷ 1 ∷ 2 ∷ 5 ∷ 8 ∷ [
 held_none Returns h = refl
 
 -- The states with no array that waits.
-pub waiting_none : (p : Pass) → OneOf (0 ∷ 1 ∷ 2 ∷ 3 ∷ 5 ∷ 6 ∷ 7 ∷ 8 ∷ []) (tag_of the_type p) → 0 ≡ waiting_of p
+pub waiting_none : (p : Pass) → OneOf (0 ∷ 1 ∷ 2 ∷ 3 ∷ 5 ∷ 6 ∷ 7 ∷ 8 ∷ []) (tag_of the_type p) → None ≡ waiting_of p
 unfolding waiting_of
 waiting_none Calls h = refl
 waiting_none MathCalls h = refl
@@ -52,6 +53,15 @@ waiting_none Unary h = refl
 waiting_none (Binary classes pending) h = refl
 waiting_none (Conditional tokens) h = refl
 waiting_none Returns h = refl
+
+-- An array that is not slot 0 waits.
+pub waiting_array : {p : Pass} (array lent : ℕ) → Arrays array lent ≡ p → then_some (not (eqb array 0)) array ≡ waiting_of p
+unfolding waiting_of
+waiting_array array lent e = given (eqb array 0) ∙ ap waiting_of e
+  where
+    given : (b : Bool) → then_some (not b) array ≡ (if b then None else Some array)
+    given true = refl
+    given false = refl
 
 -- The states of the statement pass.
 pub resumed-statements : (p : Pass) (h : Held) → OneOf (2 ∷ 3 ∷ []) (tag_of the_type p) → split_or h.first h.second ≡ resumed_with p h

@@ -1,6 +1,6 @@
 -- Reading on in a list under work: what the functions on its items ask and ensure. What is done stands the last first (`BackArray`), what
 -- is unread in order (`Ahead`); `next_token` passes over the items without a token of the pass, which leaves every slot as it is.
-use Rattle.std.specs.Prelude.{ℕ, ◌+◌, ◌^◌, ◌≤◌, ◌<◌, ◌≡◌, ◌⊎◌, Bool, true, false, List, eqb, length}
+use Rattle.std.specs.Prelude.{ℕ, ◌+◌, ◌^◌, ◌≤◌, ◌<◌, ◌≡◌, ◌⊎◌, Bool, true, false, List, eqb, length, Option, None, Some, if◌then◌else◌}
 use Rattle.molang.specs.Forest.{Token, Forest, nil, node}
 use Rattle.molang.specs.Free.{free, is_nil}
 use Rattle.ops.specs.Classes.{shares}
@@ -32,13 +32,10 @@ pub record CanPeek (W : List ℕ) (l : Items) : Type 0 where
   pub within : l.base + l.len ≤ length W
   pub slot : l.read < l.len → slot_end (wd W (l.base + l.read)) ≤ length W
 
--- The next item's slot, where it is of this operator; else 0.
-unfoldable pub next_if : List ℕ → Items → ℕ → ℕ
+-- The next item's slot, where it is of this operator.
+unfoldable pub next_if : List ℕ → Items → ℕ → Option ℕ
 next_if W l op =
-    elim (eqb l.read l.len) [
-      | true ↦ 0
-      | false ↦ elim (eqb (op_at W (wd W (l.base + l.read))) op) [ true ↦ wd W (l.base + l.read) | false ↦ 0 ]
-    ]
+    if eqb l.read l.len then None else (if eqb (op_at W (wd W (l.base + l.read))) op then Some (wd W (l.base + l.read)) else None)
 
 -- The item has children, and one of the classes c is noted there.
 unfoldable pub inner_at : List ℕ → ℕ → ℕ → Bool

@@ -1,6 +1,6 @@
 -- The pass states of the code and the passes of the definition: which state is of which pass, what a frame keeps of a state, and the tokens
 -- that a pass works on.
-use Rattle.std.specs.Prelude.{ℕ, ◌≡◌, Bool, true, false, List, eqb}
+use Rattle.std.specs.Prelude.{ℕ, ◌≡◌, Bool, true, false, List, eqb, Option, None, Some, if◌then◌else◌}
 use Rattle.molang.specs.Operator.{is_one_of}
 use Rattle.molang.specs.Calls.{query_or_loop, math, unindexed, named, indexed, calls as is_call}
 use Rattle.molang.specs.Free.{is_array_name, is_semicolon, is_prefix, is_conditional, is_return}
@@ -66,17 +66,17 @@ resumed_with (Binary classes pending) held = Binary classes held.first
 resumed_with (Conditional tokens) held = Conditional held.first
 resumed_with Returns held = Returns
 
--- The array that waits for an index, or 0.
-unfoldable pub waiting_of : Pass → ℕ
-waiting_of Calls = 0
-waiting_of MathCalls = 0
-waiting_of Unsplit = 0
-waiting_of (Split done) = 0
-waiting_of (Arrays array lent) = array
-waiting_of Unary = 0
-waiting_of (Binary classes pending) = 0
-waiting_of (Conditional tokens) = 0
-waiting_of Returns = 0
+-- The array that waits for an index.
+unfoldable pub waiting_of : Pass → Option ℕ
+waiting_of Calls = None
+waiting_of MathCalls = None
+waiting_of Unsplit = None
+waiting_of (Split done) = None
+waiting_of (Arrays array lent) = if eqb array 0 then None else Some array
+waiting_of Unary = None
+waiting_of (Binary classes pending) = None
+waiting_of (Conditional tokens) = None
+waiting_of Returns = None
 
 -- A state of the same pass at the start of a list: it holds nothing but the array that is lent to the list.
 unfoldable pub begun_of : Pass → Pass

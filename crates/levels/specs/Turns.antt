@@ -1,6 +1,6 @@
 -- THE CONTRACTS between the driver and the levels: what a level's turn, its taking back of an item and its end ask and ensure. Each says by
 -- an equation between what is left of the pass before and after (`work`) that the pass's result never changes.
-use Rattle.std.specs.Prelude.{ℕ, ◌+◌, ◌*◌, ◌^◌, ◌≤◌, ◌<◌, ◌≡◌, true, false, List, ◌∷◌, length}
+use Rattle.std.specs.Prelude.{ℕ, ◌+◌, ◌*◌, ◌^◌, ◌≤◌, ◌<◌, ◌≡◌, true, false, List, ◌∷◌, length, Result, Ok, Err}
 use Rattle.molang.specs.Forest.{Token, Forest, nil, count, size}
 use Rattle.molang.specs.Message.{Message, ok, fail}
 use Rattle.molang.specs.Calls.{indexed, starts_with_index}
@@ -17,9 +17,8 @@ use Rattle.levels.specs.declared.turns.Pass.TheVariants.{Calls, MathCalls, Unspl
 use Rattle.levels.specs.declared.turns.Pass.TheVariants.{Returns}
 use Rattle.levels.specs.declared.turns.Walk.{Walk}
 use Rattle.levels.specs.declared.turns.Turn.{Turn}
-use Rattle.levels.specs.declared.turns.Turn.TheVariants.{On, Enter, Over, Fail}
+use Rattle.levels.specs.declared.turns.Turn.TheVariants.{On, Enter, Over}
 use Rattle.levels.specs.declared.turns.Finished.{Finished}
-use Rattle.levels.specs.declared.turns.Finished.TheVariants.{At, Fail as Failed}
 
 -- The same list of the same pass.
 pub record SameList (w w' : Walk) : Type 0 where
@@ -70,25 +69,25 @@ pub data Begins (W X : List ℕ) (lo l : ℕ) (cs : Forest) : (κ : Kind) → Pa
       → Begins W X lo l cs arrays (Arrays array a) (indexed nil q nil)
 
 -- Where a turn leads to, from the state s with the items `rest` unread.
-pub data TurnTo (κ : Kind) (W' X : List ℕ) (lo hi : ℕ) (w : Walk) (s : State κ) (rest : Forest) : Turn → Type 0 where
+pub data TurnTo (κ : Kind) (W' X : List ℕ) (lo hi : ℕ) (w : Walk) (s : State κ) (rest : Forest) : Result Turn Failure → Type 0 where
   goes : {w' : Walk} {s' : State κ} {rest' : Forest} → SameList w w' → Holds κ W' X lo hi w' s' rest'
       → work κ s rest ≡ work κ s' rest'
       → count rest' ≤ count rest → size rest' + count rest ≤ size rest + count rest' → turns_left κ s' rest' < turns_left κ s rest
-      → TurnTo κ W' X lo hi w s rest (On w')
+      → TurnTo κ W' X lo hi w s rest (Ok (On w'))
   enters : {w' : Walk} {b l n m : ℕ} {t u : State κ} {rest' : Forest} {k : Token} {cs : Forest} → SameList w w'
       → Waits κ W' X lo l m hi w' t rest'
       → RepT W' X b n m k cs → is_nil cs ≡ false → Begins W' (b ∷ X) l n cs κ w'.pass u
       → work κ s rest ≡ and_then (work κ u (in_reading κ cs)) (λ kids. work κ (takes κ t k kids) rest')
       → count rest' ≤ count rest → size cs + size rest' + count rest ≤ size rest + count rest' + 1 → 1 + size cs + size rest' ≤ size rest
       → waits κ t + waits κ u ≤ waits κ s + 1
-      → TurnTo κ W' X lo hi w s rest (Enter w' b)
+      → TurnTo κ W' X lo hi w s rest (Ok (Enter w' b))
   ends : {w' : Walk} {s' : State κ} → SameList w w' → Holds κ W' X lo hi w' s' nil → waits κ s' ≡ 0
       → work κ s rest ≡ work κ s' nil
-      → TurnTo κ W' X lo hi w s rest (Over w')
-  fails : {f : Failure} {ms : List Message} → Tells W' f ms → work κ s rest ≡ fail ms → TurnTo κ W' X lo hi w s rest (Fail f)
+      → TurnTo κ W' X lo hi w s rest (Ok (Over w'))
+  fails : {f : Failure} {ms : List Message} → Tells W' f ms → work κ s rest ≡ fail ms → TurnTo κ W' X lo hi w s rest (Err f)
 
 -- The turn leads where `TurnTo` says, and changes only what is the list's.
-pub record Turned (W : List ℕ) (w : Walk) (r : Turn) (W' : List ℕ) : Type 0 where
+pub record Turned (W : List ℕ) (w : Walk) (r : Result Turn Failure) (W' : List ℕ) : Type 0 where
   pub to : (g : CanTurn W w) → TurnTo g.κ W' g.X g.lo g.hi w g.s g.rest r
   pub within : (g : CanTurn W w) → Within W W' g.X g.lo g.hi w.list
 
@@ -131,14 +130,18 @@ pub record CanFinish (W : List ℕ) (w : Walk) : Type 0 where
   pub idle : waits κ s ≡ 0
   pub small : length W < 2 ^ 32
 
+-- The n finished items that stand from `from` on.
+abbrev pub ended_at : ℕ → ℕ → Finished
+ended_at from n = record { from = from; items = n }
+
 -- The n words from `from` on are the list that the pass gives.
-pub data FinishTo (κ : Kind) (W' X : List ℕ) (lo hi : ℕ) (v : Items) (s : State κ) : Finished → Type 0 where
+pub data FinishTo (κ : Kind) (W' X : List ℕ) (lo hi : ℕ) (v : Items) (s : State κ) : Result Finished Failure → Type 0 where
   gives : {from n : ℕ} {f : Forest} → work κ s nil ≡ ok f → InArray W' X from n lo hi f → v.base ≤ from → from + n ≤ v.base + v.len
-      → FinishTo κ W' X lo hi v s (At from n)
-  fails : {f : Failure} {ms : List Message} → Tells W' f ms → work κ s nil ≡ fail ms → FinishTo κ W' X lo hi v s (Failed f)
+      → FinishTo κ W' X lo hi v s (Ok (ended_at from n))
+  fails : {f : Failure} {ms : List Message} → Tells W' f ms → work κ s nil ≡ fail ms → FinishTo κ W' X lo hi v s (Err f)
 
 -- The end gives what `FinishTo` says, and changes only what is the list's.
-pub record Ends (W : List ℕ) (w : Walk) (r : Finished) (W' : List ℕ) : Type 0 where
+pub record Ends (W : List ℕ) (w : Walk) (r : Result Finished Failure) (W' : List ℕ) : Type 0 where
   pub to : (g : CanFinish W w) → FinishTo g.κ W' g.X g.lo g.hi w.list g.s r
   pub within : (g : CanFinish W w) → Within W W' g.X g.lo g.hi w.list
 

@@ -1,8 +1,10 @@
 // Why a pass fails. `Failure` has the messages of document 01 that a pass gives alone, with the slots of the tokens that they speak of.
-// Brackets that do not match give two messages: `Mismatch` and `Unclosed`. `parse/src/report.rt` makes the records of all three.
-// Leans on nothing.
+// Brackets that do not match give two messages: `Mismatch` and `Unclosed`. A `Fault` is any of the three; `parse/src/report.rt` makes
+// the records. Leans on nothing.
+ghost use Rattle.std.specs.Prelude.{◌≡◌};
+ghost use Rattle.levels.specs.declared.failure.Fault.TheVariants.{Failed};
 
-#[derive(Clone, Copy)]
+#[derive(Clone, Copy, Debug, PartialEq, Eq)]
 pub enum Failure {
     // Complex, and the token that the list ends with.
     ComplexMustEndWithSemicolon(u32),
@@ -27,7 +29,7 @@ pub enum Failure {
 
 // A closer that is not the innermost open section's: that section's opener and its index plus one, the closer and its index, and the
 // outermost opener, which is named as not closed.
-#[derive(Clone, Copy)]
+#[derive(Clone, Copy, Debug, PartialEq, Eq)]
 pub struct Mismatch {
     pub opener: u32,
     pub start: u32,
@@ -37,9 +39,28 @@ pub struct Mismatch {
 }
 
 // Sections that are open at the end: the innermost opener and its index plus one, and the outermost opener.
-#[derive(Clone, Copy)]
+#[derive(Clone, Copy, Debug, PartialEq, Eq)]
 pub struct Unclosed {
     pub inner: u32,
     pub start: u32,
     pub outer: u32,
+}
+
+// Why a list is no tree.
+#[derive(Clone, Copy, Debug, PartialEq, Eq)]
+pub enum Fault {
+    Failed(Failure),
+    Mismatched(Mismatch),
+    Unclosed(Unclosed),
+    // The pointer pass failed, which leaves the list empty; the passes after it leave an empty list as it is.
+    PointerFailed(Failure),
+}
+
+// The failure of any pass but the pointer's.
+impl From<Failure> for Fault {
+    ghost from_gives = { λ failure fault. fault ≡ Failed failure };
+
+    fn from(failure: Failure) -> Self {
+        Fault::Failed(failure)
+    }
 }

@@ -49,21 +49,21 @@ pub fn keep(work: &mut [u32], list: List, item: u32) -> List
     moved(list, list.read, list.write + 1)
 }
 
-// The next unread item if it is of op, else 0 (`next_if` of driver.rs). The call and array passes have a list whose unread items are trees
+// The next unread item if it is of op (`next_if` of driver.rs). The call and array passes have a list whose unread items are trees
 // of the store below the stack (`can-peek` of proofs/Reading).
-pub fn next_if(work: &[u32], list: List, op: u32) -> u32
+pub fn next_if(work: &[u32], list: List, op: u32) -> Option<u32>
     requires { CanPeek work.now list }
     ensures { result ≡ next_if work.now list op }
 {
     if list.read == list.len {
-        return 0;
+        return None;
     }
     let at = list.base + list.read;
     let item = work[at];
     if slots::operator_of(work, item) == op {
-        return item;
+        return Some(item);
     }
-    0
+    None
 }
 
 // Whether `item` is a node with leaves of `classes` below it. `binary::folded` asks it of the next item, a tree of the store.
@@ -84,14 +84,11 @@ pub fn next_token(work: &mut [u32], list: List, classes: TokenClasses) -> Found
     ensures { Sought work.old list classes.0 result work.new }
 {
     let base = list.base;
-    let len = list.len;
-    let mut read = list.read;
     let mut write = list.write;
-    while read < len {
+    for read in list.read..list.len {
         let item = work[base + read];
-        read += 1;
         if slots::classes_of(work, item).intersects(classes) {
-            let after = moved(list, read, write);
+            let after = moved(list, read + 1, write);
             if slots::is_leaf(work, item) {
                 return Found::Token(after, item);
             }
@@ -100,5 +97,5 @@ pub fn next_token(work: &mut [u32], list: List, classes: TokenClasses) -> Found
         work[base + write] = item;
         write += 1;
     }
-    Found::Nothing(moved(list, read, write))
+    Found::Nothing(moved(list, list.len, write))
 }

@@ -3,7 +3,6 @@
 ghost use Rattle.std.specs.Prelude.{◌≡◌};
 ghost use Rattle.levels.specs.Passes.{walk_of, classes_of, held_of, split_or, resumed_with, waiting_of, begun_of};
 
-use crate::failure::Failure;
 use nodes::frames::{Held, List};
 use ops::classes::TokenClasses;
 
@@ -17,7 +16,8 @@ pub enum Pass {
     // Statements, in a list split at its semicolons: how many are done.
     Split { done: u32 },
     // `array` is the array whose index was entered last and that may take further ones, or 0; its children stand in a chain from the
-    // last to the first. `lent` is the array that the contents of that index complete, or 0.
+    // last to the first. `lent` is the array that the contents of that index complete, or 0. Here and at `pending` 0 stands for none, as in
+    // the words of a frame: an Option would be made of such a word and turned into one again at each (`resumed`, `held`).
     Arrays { array: u32, lent: u32 },
     Unary,
     // The level's classes, and the operator whose right side is entered, or 0.
@@ -35,7 +35,7 @@ pub struct Walk {
     pub pass: Pass,
 }
 
-// What a level makes of its list up to the next token or node that it works on.
+// What a level makes of its list up to the next token or node that it works on, if it does not fail.
 #[derive(Clone, Copy)]
 pub enum Turn {
     On(Walk),
@@ -43,14 +43,13 @@ pub enum Turn {
     Enter(Walk, u32),
     // Every item is done.
     Over(Walk),
-    Fail(Failure),
 }
 
-// What a level makes of a list whose items are all done: where the finished items stand, and how many.
+// What a level makes of a list whose items are all done, if it does not fail: where the finished items stand, and how many.
 #[derive(Clone, Copy)]
-pub enum Finished {
-    At(usize, usize),
-    Fail(Failure),
+pub struct Finished {
+    pub from: usize,
+    pub items: usize,
 }
 
 // The statement pass on a list that a frame held.
@@ -153,13 +152,13 @@ impl Pass {
         }
     }
 
-    // The array that waits for an index, or 0.
-    pub fn waiting(self) -> u32
+    // The array that waits for an index.
+    pub fn waiting(self) -> Option<u32>
         ensures { result ≡ waiting_of self }
     {
         match self {
-            Pass::Arrays { array, lent: _ } => array,
-            _ => 0,
+            Pass::Arrays { array, lent: _ } => (array != 0).then_some(array),
+            _ => None,
         }
     }
 

@@ -12,7 +12,10 @@ use Rattle.parse.specs.{declared.Answer.{Answer}, Answers.{told_of, HasParsed}}
 use Rattle.own.{specs.Own.{own_call}, proofs.BesideLaws.{counts-differ}}
 use Rattle.lift.specs.Lifting.{LiftCall, room_refusal, first_call, Handed, handed, second_call, writer_call, OutputLeft, held_told}
 use Rattle.lift.specs.Lifting.{after_writing, written_out, after_second, LiftLeft, stopped, after_first, unread, by_room, lift_left, tree_by}
-use Rattle.lift.specs.{Lifting.{tree_left, IsLift}, declared.Outcome.{Outcome}, declared.Outcome.TheVariants.{Behind}}
+use Rattle.lift.specs.{Lifting.{tree_left, IsLift}, declared.Outcome.{Outcome}}
+use Rattle.std.specs.Prelude.{Result, Err}
+use Rattle.words.specs.Refusals.{reason_number}
+use Rattle.words.specs.declared.refusals.Refusal as code
 use Rattle.lift.specs.Answers.{lift_told, output_of, left_of, engine, handed_of, WasRead, HasLifted}
 use Rattle.lift.proofs.Lifted.{lift-is, lift-within}
 use Rattle.lift.proofs.Within.{IsLiftWithin}
@@ -48,15 +51,16 @@ module _ (tree output : List ℕ) (nodes count : ℕ) (was : WasRead (a_tree nod
 
 module _ (tree output : List ℕ) (limit nodes : ℕ) (left : List ℕ) (is : left ≡ list_after (writer_call tree output nodes)) where
   -- It is turned back.
-  pub out-unwritten : (number place : ℕ) → unwritten number place ≡ write_answered (writer_call tree output nodes)
-      → output_of (Behind number place) left ≡ written_out tree output limit nodes
+  pub out-unwritten : (r : code.Refusal) → unwritten (reason_number r.reason) r.place ≡ write_answered (writer_call tree output nodes)
+      → output_of (Err r) left ≡ written_out tree output limit nodes
   unfolding written_out after_writing writer_call
-  out-unwritten number place e =
-      let kept : left ≡ output = is ∙ unwritten-list (writer_call tree output nodes) number place (sym e) in rw (← e, kept) refl
+  out-unwritten r e =
+      let kept : left ≡ output = is ∙ unwritten-list (writer_call tree output nodes) (reason_number r.reason) r.place (sym e) in
+      rw (← e, kept) refl
 
   -- What it wrote is held to the limit.
   pub out_written : (count : ℕ) → tokens count ≡ write_answered (writer_call tree output nodes)
-      → (r : Outcome) → lift_told r ≡ held_told count (verdict count (nesting_refusal limit (take (5 * count) left)))
+      → (r : Result Outcome code.Refusal) → lift_told r ≡ held_told count (verdict count (nesting_refusal limit (take (5 * count) left)))
       → output_of r left ≡ written_out tree output limit nodes
   unfolding written_out after_writing
   out_written count e r said = rw (← e, said, is) refl
@@ -74,9 +78,9 @@ module _ (nodes m : ℕ) (tree again : List ℕ) (room : 7 * nodes ≤ length tr
 -- ---- The readings
 
 -- What the second reading told and left is handed on.
-pub has-second : (h : Handed) (nodes : ℕ) {second : Answer} {again messages work : List ℕ}
+pub has-second : (h : Handed) (nodes : ℕ) {second : Result Answer code.Refusal} {again messages work : List ℕ}
     → HasParsed (own_call h.list h.again h.messages h.work h.to.version h.to.limit) second again messages work
-    → (r : Outcome) (output : List ℕ)
+    → (r : Result Outcome code.Refusal) (output : List ℕ)
     → output_of r output ≡ after_second h.tree again h.output h.to.limit nodes (told_of second)
     → left_of r again messages work output ≡ after_first h (a_tree nodes)
 unfolding after_first second_call
@@ -86,7 +90,7 @@ has-second h nodes p r output e =
     rw (says, wrote, p.told, p.tree, p.messages, p.work) refl
 
 -- What is left is the definition's, and so it is its lift.
-has-lifted : (c : LiftCall) {r : Outcome} {tree again messages work output : List ℕ}
+has-lifted : (c : LiftCall) {r : Result Outcome code.Refusal} {tree again messages work output : List ℕ}
     → left_of r again messages work output ≡ lift_left c
     → tree ≡ tree_left c
     → HasLifted c r tree again messages work output
@@ -94,22 +98,22 @@ has-lifted c left tree =
     record { left = left; tree = tree; lift = subst (λ (l : LiftLeft). IsLift c l.told l.output) (sym left) (lift-is c) }
 
 -- By the call's promise what is told ends within the output.
-pub told-within : {c : LiftCall} {r : Outcome} {tree again messages work output : List ℕ} → HasLifted c r tree again messages work output
+pub told-within : {c : LiftCall} {r : Result Outcome code.Refusal} {tree again messages work output : List ℕ} → HasLifted c r tree again messages work output
     → IsLiftWithin c (lift_told r) output
 told-within {c} h = subst (λ (l : LiftLeft). IsLiftWithin c l.told l.output) (sym h.left) (lift-within c)
 
 -- A call that is turned back for its lengths.
-pub no_room : (c : LiftCall) (number place n : ℕ) → is_refused number place ≡ verdict n (room_refusal c)
-    → HasLifted c (Behind number place) c.tree c.again c.messages c.work c.output
+pub no_room : (c : LiftCall) {r : code.Refusal} (n : ℕ) → is_refused (reason_number r.reason) r.place ≡ verdict n (room_refusal c)
+    → HasLifted c (Err r) c.tree c.again c.messages c.work c.output
 unfolding lift_left tree_left by_room tree_by stopped unread
-no_room c number place n h = by (room_refusal c) refl h
+no_room c {r = back} n h = by (room_refusal c) refl h
   where
-    by : (o : Option Refusal) → room_refusal c ≡ o → is_refused number place ≡ verdict n o
-        → HasLifted c (Behind number place) c.tree c.again c.messages c.work c.output
+    by : (o : Option Refusal) → room_refusal c ≡ o → is_refused (reason_number back.reason) back.place ≡ verdict n o
+        → HasLifted c (Err back) c.tree c.again c.messages c.work c.output
     by none e h = let z : ◌≡◌ {A = ℕ} 0 1 = cc in absurd (omega arith)
     by (some r) e h =
-        let a : number ≡ r.number = cc in
-        let b : place ≡ r.place = cc in
+        let a : reason_number back.reason ≡ r.number = cc in
+        let b : back.place ≡ r.place = cc in
         has-lifted c (rw (e, a, b) refl) (rw e refl)
 
 -- One that is not.
@@ -121,10 +125,10 @@ has_room c m n h = by (room_refusal c) refl h
     by (some r) e h = let z : ◌≡◌ {A = ℕ} 0 1 = cc in absurd (omega arith)
 
 -- What the first reading told and left is handed on.
-pub has_first : (c : LiftCall) → room_refusal c ≡ none → {first : Answer} {tree messages work : List ℕ}
+pub has_first : (c : LiftCall) → room_refusal c ≡ none → {first : Result Answer code.Refusal} {tree messages work : List ℕ}
     → HasParsed (first_call c) first tree messages work
     → {passed : ℤ} → passed ≡ c.to.version
-    → {r : Outcome} {again messages' work' output : List ℕ}
+    → {r : Result Outcome code.Refusal} {again messages' work' output : List ℕ}
     → left_of r again messages' work' output
     ≡ after_first (handed_of c.list tree c.again messages work c.output (engine passed c.to.limit)) (told_of first)
     → HasLifted c r tree again messages' work' output

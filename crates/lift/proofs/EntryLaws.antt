@@ -9,16 +9,18 @@ use Rattle.molang.specs.{FirstFailure.{must, first_of}, Nesting.{too_deep}, Pars
 use Rattle.molang.specs.Parse.{tree_after, tree_in, messages_after, messages_in, work_after, work_in}
 use Rattle.molang.specs.{Words.{Refusal, row, with_number, operator_field, words_refusal, tokens_of}, Lift.{behind, lift_refusal, lift_of}}
 use Rattle.molang.proofs.{FirstFailure.{All, first-none, last_one}, Refusals.{Within, refusal-within}}
-use Rattle.accept.{specs.declared.Sizes.{Sizes}, specs.Accepting.{verdict, call_of, length_refusal, value_refusal, nesting_refusal}}
+use Rattle.accept.{specs.declared.Sizes.{Sizes}, specs.Accepting.{is_read, is_refused, verdict, call_of, length_refusal, value_refusal, nesting_refusal}}
 use Rattle.accept.proofs.AcceptLaws.{table}
 use Rattle.own.specs.Own.{named_call, own_call}
 use Rattle.lift.specs.Lifting.{LiftCall, Handed, room_refusal, first_limit, LiftTold, stays_same, comes_out, has_messages, stays_behind}
 use Rattle.lift.specs.Lifting.{LiftLeft, unread, handed, first_call, after_first, by_room, lift_left, tree_by, tree_left}
 use Rattle.lift.specs.{Lifting.{stopped}, declared.Outcome.{Outcome}}
+use Rattle.std.specs.Prelude.{Result}
+use Rattle.words.specs.declared.refusals.Refusal.{Refusal as Refused}
 use Rattle.lift.proofs.{CallLaws.{told-within}, Within.{IsLiftWithin, by_lengths, by_output, list_stays, list_comes, list_told, list_behind}}
 use Rattle.lift.specs.Answers.{lift_told, HasLifted}
 use Rattle.lift.specs.Entry.{LotTold, lot_of, or_turned, turned_back, entry_refusal, entry_told, entry_left, lot_lift, turned_by, CanTell}
-use Rattle.lift.specs.Entry.{kept_or, behind_by, behind_as, HasEntered}
+use Rattle.lift.specs.Entry.{left_behind, left_unwritten, kept_or, behind_as, HasEntered}
 use Rattle.lift.proofs.Lifted.{limit-rows, after-rows, rooms, first-refusal}
 
 -- ---- Where it is turned back
@@ -114,7 +116,7 @@ row-tells c = by (turned_row c) refl
     by (some r) e =
         subst (λ (l : LiftLeft). CanTell (turned_row c) l.told) (sym (turned_left c r e).0) (unfold stopped in tt)
 
-pub can-tell : (c : LiftCall) {r : Outcome} {tree again messages work output : List ℕ} → HasLifted c r tree again messages work output
+pub can-tell : (c : LiftCall) {r : Result Outcome Refused} {tree again messages work output : List ℕ} → HasLifted c r tree again messages work output
     → (n : ℕ) → n ≡ shorter_of c
     → CanTell (turned_by c.list (sizes_by c n) c.from.limit c.to.limit) (lift_told r)
 can-tell c {r} h n e =
@@ -203,7 +205,7 @@ short-entered c short {n} m {says} e = by (turned_row c) refl
     by (some r) f = turned-entered c r (entry-short c short ∙ rw f refl) (told ∙ rw f refl) refl refl refl refl refl
 
 -- Every other call.
-pub long-entered : (c : LiftCall) → 20480 ≤ length c.output → {r : Outcome} {tree again messages work output : List ℕ}
+pub long-entered : (c : LiftCall) → 20480 ≤ length c.output → {r : Result Outcome Refused} {tree again messages work output : List ℕ}
     → HasLifted c r tree again messages work output
     → {n : ℕ} → n ≡ shorter_of c
     → {says : LotTold}
@@ -242,11 +244,16 @@ long-entered c long {r} {tree} {again} {messages} {work} {output} h {n} m {says}
 
 -- ---- What the functions below it tell
 
--- By what the check of the nesting says.
-pub behind-by : (n : ℕ) (deep : Option ℕ) (number place : ℕ)
-    → behind_by (verdict n (with_number 18 deep)) number place ≡ behind_as deep number place
-behind-by n none number place = refl
-behind-by n (some token) number place = refl
+-- By what the check of the nesting says: it passes where the list is not too deep.
+pub not-deep : {m : ℕ} (n : ℕ) (deep : Option ℕ) (number place : ℕ) → is_read m ≡ verdict n (with_number 18 deep)
+    → left_unwritten number place ≡ behind_as deep number place
+not-deep n none number place e = refl
+not-deep n (some token) number place e = let z : ◌≡◌ {A = ℕ} 0 1 = cc in absurd (omega arith)
+
+pub too-deep : {k p : ℕ} (n : ℕ) (deep : Option ℕ) (number place : ℕ) → is_refused k p ≡ verdict n (with_number 18 deep)
+    → left_behind number place ≡ behind_as deep number place
+too-deep n none number place e = let z : ◌≡◌ {A = ℕ} 0 1 = cc in absurd (omega arith)
+too-deep n (some token) number place e = refl
 
 -- Of a call that is not turned back.
 pub tell-free : {o : Option Refusal} → o ≡ none → {says told : LotTold} → says ≡ told → says ≡ or_turned o told

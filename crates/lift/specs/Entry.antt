@@ -1,6 +1,6 @@
 -- The lift as the library exports it: where a call is turned back, by the table's order and before anything is changed; and what is told
 -- of every other call, with the list that a place is of.
-use Rattle.std.specs.Prelude.{ℕ, ◌*◌, ◌≡◌, List, [], ◌∷◌, leb, length, take}
+use Rattle.std.specs.Prelude.{ℕ, ◌*◌, ◌≡◌, List, [], ◌∷◌, leb, length, take, Result, Ok, Err}
 use Rattle.std.proofs.Math.Option.{Option, none, some}
 use Rattle.molang.specs.FirstFailure.{must, first_of}
 use Rattle.molang.specs.Words.{Refusal, row, tokens_of}
@@ -8,11 +8,13 @@ use Rattle.molang.specs.Nesting.{too_deep}
 use Rattle.molang.specs.Parse.{refusal}
 use Rattle.molang.specs.Lift.{Lifted, same, lifted, behind, lift_refusal, lift_of}
 use Rattle.accept.specs.declared.Sizes.{Sizes}
-use Rattle.accept.specs.Accepting.{Verdict, is_read, is_refused, call_of}
+use Rattle.accept.specs.Accepting.{call_of}
 use Rattle.lift.specs.Lifting.{LiftCall, room_refusal, first_limit, LiftTold, stays_same, comes_out, has_messages, stays_behind, lift_left}
 use Rattle.lift.specs.Lifting.{tree_left}
 use Rattle.lift.specs.declared.entry.Lot.{Lot}
-use Rattle.lift.specs.declared.entry.Lot.TheVariants.{Same, Lifted as CameOut, Messages, Refused, Behind, Unwritten}
+use Rattle.lift.specs.declared.entry.Lot.TheVariants.{Same, Lifted as CameOut, Messages, Behind, Unwritten}
+use Rattle.words.specs.Refusals.{reason_number}
+use Rattle.words.specs.declared.refusals.Refusal as code
 
 -- ---- What is told
 
@@ -23,23 +25,18 @@ pub data LotTold : Type 0 where
   turned_back left_behind left_unwritten : ℕ → ℕ → LotTold
 
 -- What each case of `Lot` tells.
-abbrev pub lot_told : Lot → LotTold
-lot_told (Same nodes) = unchanged nodes
-lot_told (CameOut tokens) = rewritten tokens
-lot_told (Messages records) = with_messages records
-lot_told (Refused number place) = turned_back number place
-lot_told (Behind number place) = left_behind number place
-lot_told (Unwritten number place) = left_unwritten number place
+abbrev pub lot_told : Result Lot code.Refusal → LotTold
+lot_told (Ok (Same nodes)) = unchanged nodes
+lot_told (Ok (CameOut tokens)) = rewritten tokens
+lot_told (Ok (Messages records)) = with_messages records
+lot_told (Ok (Behind r)) = left_behind (reason_number r.reason) r.place
+lot_told (Ok (Unwritten r)) = left_unwritten (reason_number r.reason) r.place
+lot_told (Err r) = turned_back (reason_number r.reason) r.place
 
 -- A list that stays behind does so as it is, if it is too deep for the new limit; else for what would be written.
 abbrev pub behind_as : Option ℕ → ℕ → ℕ → LotTold
 behind_as (some token) number place = left_behind number place
 behind_as none number place = left_unwritten number place
-
--- The same by what the check of its nesting says.
-abbrev pub behind_by : Verdict → ℕ → ℕ → LotTold
-behind_by (is_read n) number place = left_unwritten number place
-behind_by (is_refused row token) number place = left_behind number place
 
 -- What is told of a call that is not turned back, by whether its list is too deep for the new limit.
 abbrev pub lot_of : Option ℕ → LiftTold → LotTold

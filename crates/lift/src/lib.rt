@@ -4,22 +4,22 @@
 
 pub mod entry;
 
-ghost use Rattle.std.specs.Prelude.{◌≡◌, ◌*◌, ◌≤◌, min, length, take};
+ghost use Rattle.std.specs.Prelude.{◌≡◌, ◌*◌, ◌≤◌, length, take};
 ghost use Rattle.molang.specs.Parse.{a_tree};
 ghost use Rattle.molang.specs.Lift.{eq_words};
-ghost use Rattle.accept.specs.Accepting.{verdict_of};
 ghost use Rattle.parse.specs.Answers.{told_of};
-ghost use Rattle.lift.specs.Lifting.{first_limit, held_told, written_out, after_second, after_first};
-ghost use Rattle.lift.specs.Answers.{lift_told, output_of, left_of, engine, handed_of, lift_call, WasRead, HasLifted};
+ghost use Rattle.lift.specs.Lifting.{first_limit, written_out, after_second, after_first};
+ghost use Rattle.lift.specs.Answers.{output_of, left_of, engine, handed_of, lift_call, WasRead, HasLifted};
 
-use accept::{Accepted, Sizes, is_limit, lengths, nesting};
+use accept::{Sizes, is_limit, lengths, nesting};
 use own::beside::same_words;
 use own::read_own;
 use parse::Answer;
 use words::fields;
-use write::{Written, write};
+use words::refusals::Refusal;
+use write::write;
 
-// What becomes of a list.
+// What becomes of a list, unless it stays behind: then the refusal says why.
 #[derive(Clone, Copy)]
 pub enum Outcome {
     // It stays word for word; its tree has so many nodes at both engines.
@@ -28,18 +28,6 @@ pub enum Outcome {
     Lifted(usize),
     // The old engine has so many messages for it.
     Messages(usize),
-    // It stays behind: a refusal's number and place.
-    Behind(u32, usize),
-}
-
-// The shorter of two lengths.
-fn shorter(a: usize, b: usize) -> usize
-    ensures { result ≡ min a b }
-{
-    if a <= b {
-        return a;
-    }
-    b
 }
 
 // The limit of the first reading: none if the new limit is none.
@@ -52,31 +40,16 @@ fn first_limit(from: u32, to: u32) -> u32
     0
 }
 
-// What is told of so many written tokens, by whether they are within the limit.
-fn held(count: usize, found: Accepted) -> Outcome
-    ensures { lift_told result ≡ held_told count (verdict_of found) }
-{
-    match found {
-        Accepted::Tokens(_) => Outcome::Lifted(count),
-        Accepted::Refused(number, place) => Outcome::Behind(number, place),
-    }
-}
-
 // Writes the tree of so many nodes that a reading left in front of its buffer, and sees that what was written is within the limit.
-fn write_out(tree: &[u32], output: &mut [u32], nodes: usize, limit: u32) -> Outcome
+fn write_out(tree: &[u32], output: &mut [u32], nodes: usize, limit: u32) -> Result<Outcome, Refusal>
     requires { WasRead (a_tree nodes) tree.now }
     ensures { output_of result output.new ≡ written_out tree.now output.old limit nodes }
 {
     let words = fields::NODE_WORDS * nodes;
-    let wrote = write(&tree[..words], output);
-    match wrote {
-        Written::Refused(number, place) => Outcome::Behind(number, place),
-        Written::Tokens(count) => {
-            let end = fields::TOKEN_WORDS * count;
-            let found = nesting(&output[..end], count, limit);
-            held(count, found)
-        }
-    }
+    let count = write(&tree[..words], output)?;
+    let end = fields::TOKEN_WORDS * count;
+    nesting(&output[..end], count, limit)?;
+    Ok(Outcome::Lifted(count))
 }
 
 // Whether two trees in front of their buffers have the same words.
@@ -94,22 +67,21 @@ fn same_trees(nodes: usize, m: usize, tree: &[u32], again: &[u32]) -> bool
 // reads as the same tree stays; any other is written.
 fn after_second(
     nodes: usize,
-    second: Answer,
+    second: Result<Answer, Refusal>,
     tree: &[u32],
     again: &[u32],
     output: &mut [u32],
     limit: u32,
-) -> Outcome
+) -> Result<Outcome, Refusal>
     requires { (WasRead (a_tree nodes) tree.now) × (WasRead (told_of second) again.now) }
     ensures { output_of result output.new
         ≡ after_second tree.now again.now output.old limit nodes (told_of second) }
 {
-    match second {
-        Answer::Refused(number, place) => Outcome::Behind(number, place),
+    match second? {
         Answer::Messages(_) => write_out(tree, output, nodes, limit),
         Answer::Tree(m) => {
             if same_trees(nodes, m, tree, again) {
-                return Outcome::Same(nodes);
+                return Ok(Outcome::Same(nodes));
             }
             write_out(tree, output, nodes, limit)
         }
@@ -118,7 +90,7 @@ fn after_second(
 
 // What comes of the first reading's answer: a tree's list is read again, at the new engine.
 fn after_first(
-    first: Answer,
+    first: Result<Answer, Refusal>,
     list: &[u32],
     tree: &[u32],
     again: &mut [u32],
@@ -127,7 +99,7 @@ fn after_first(
     output: &mut [u32],
     version: i16,
     limit: u32,
-) -> Outcome
+) -> Result<Outcome, Refusal>
     requires { WasRead (told_of first) tree.now }
     ensures { left_of result again.new messages.new work.new output.new
         ≡ after_first
@@ -135,9 +107,8 @@ fn after_first(
         output.old (engine version limit))
         (told_of first) }
 {
-    match first {
-        Answer::Refused(number, place) => Outcome::Behind(number, place),
-        Answer::Messages(records) => Outcome::Messages(records),
+    match first? {
+        Answer::Messages(records) => Ok(Outcome::Messages(records)),
         Answer::Tree(nodes) => {
             let second = read_own(list, again, messages, work, version, limit);
             after_second(nodes, second, tree, again, output, limit)
@@ -157,27 +128,22 @@ pub fn lift(
     to: i16,
     limit_from: u32,
     limit_to: u32,
-) -> Outcome
+) -> Result<Outcome, Refusal>
     ensures { HasLifted
         (lift_call list.now tree.old again.old messages.old work.old
         output.old (engine from limit_from) (engine to limit_to))
         result tree.new again.new messages.new work.new output.new }
 {
     let sizes = Sizes {
-        tree: shorter(tree.len(), again.len()),
+        tree: tree.len().min(again.len()),
         messages: messages.len(),
         work: work.len(),
         source: 0,
     };
-    let room = lengths(list, sizes);
-    match room {
-        Accepted::Refused(number, place) => Outcome::Behind(number, place),
-        Accepted::Tokens(_) => {
-            let limit = first_limit(limit_from, limit_to);
-            let first = read_own(list, tree, messages, work, from, limit);
-            after_first(
-                first, list, tree, again, messages, work, output, to, limit_to,
-            )
-        }
-    }
+    lengths(list, sizes)?;
+    let limit = first_limit(limit_from, limit_to);
+    let first = read_own(list, tree, messages, work, from, limit);
+    after_first(
+        first, list, tree, again, messages, work, output, to, limit_to,
+    )
 }

@@ -6,10 +6,11 @@ use mathlib.Core.Option.{Option, none, some}
 use native.Mathlib.{Numerals.{add-one}, Omega.{arith}}
 use lib.{Dec.{eqb, leb}, IntN.{ℤ}, ListN.{length, take, set, length-append, length-set}, Seq.{take-suc-set, append_snoc}}
 use borrow.Author.Tests.{leb-true}
+use Rattle.std.specs.Prelude.{Ok, Err}
 use Rattle.molang.specs.{FirstFailure.{must, first_of}, Words.{Refusal, row, operator_field, words_refusal}}
 use Rattle.molang.proofs.FirstFailure.{passed, after_none, behind}
 use Rattle.listing.specs.Lists.{list_fault}
-use Rattle.liftcount.specs.{declared.run.Stage.TheVariants.{InList, Refused}, declared.run.Counts.{Counts}}
+use Rattle.liftcount.specs.{declared.run.Stage.TheVariants.{InList}, declared.run.Counts.{Counts}}
 use Rattle.liftcount.specs.Counting.{opens, cut, first_fault, refusal_line}
 use Rattle.liftcount.specs.Running.{Progress, counted, open_fault, reopened, word_taken, lines_of, progress_text}
 use Rattle.liftcount.proofs.{ByteLaws.{with_word}, Adding.{more-is, counted_all}}
@@ -24,11 +25,11 @@ abbrev pub text_of : Progress → List ℕ
 text_of p = progress_text p.stage p.counts p.list
 
 -- After a refusal nothing but its line is printed.
-pub refused-stays : (number place : ℕ) (counts : Counts) (list words : List ℕ)
-    → text_of (words_taken (record { stage = Refused number place; counts = counts; list = list }) words) ≡ refusal_line number place
+pub refused-stays : (r : Refusal) (counts : Counts) (list words : List ℕ)
+    → text_of (words_taken (record { stage = Err r; counts = counts; list = list }) words) ≡ refusal_line r.number r.place
 unfolding words_taken word_taken progress_text
-refused-stays number place counts list [] = refl
-refused-stays number place counts list (w ∷ words) = refused-stays number place counts list words
+refused-stays r counts list [] = refl
+refused-stays r counts list (w ∷ words) = refused-stays r counts list words
 
 -- The cut at an opener, and at another word.
 pub cut_opened : (w : ℕ) (words : List ℕ) → opens w ≡ true
@@ -102,7 +103,7 @@ module _ (from to : ℤ) where
 
   -- The progress in a list of so many words.
   abbrev inside : ℕ → Counts → List ℕ → Progress
-  inside n counts list = record { stage = InList from to n; counts = counts; list = list }
+  inside n counts list = record { stage = Ok (InList from to n); counts = counts; list = list }
 
   -- THE END OF THE OPEN LIST, by the end of the input or by an opener: it is turned back or counted.
   module _ (p : List ℕ) (counts : Counts) (list : List ℕ) (held : Open p list) where
@@ -119,7 +120,7 @@ module _ (from to : ℤ) where
     unfolding reopened
     reopens words ls rest (some r) e =
         rw (open-fault p list held ∙ e, reopened)
-        (refused-stays r.number r.place counts list words ∙ sym (outcome-refused p ls counts r e))
+        (refused-stays r counts list words ∙ sym (outcome-refused p ls counts r e))
     reopens words ls rest none e =
         rw (open-fault p list held ∙ e, reopened, held (not-long p e)) (rest ∙ sym (outcome-counted p ls counts e))
 

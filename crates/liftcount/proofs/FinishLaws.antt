@@ -4,6 +4,7 @@ use mathlib.Core.{Path.{◌≡◌, refl, sym, ap}, List.{List}, Option.{Option, 
 use native.Mathlib.Omega.{arith}
 use lib.{IntN.{ℤ}, ListN.{length, take}}
 use borrow.Author.Tests.{eq-eqb, ne_eqb}
+use Rattle.std.specs.Prelude.{Result, Ok}
 use Rattle.molang.specs.Words.{Refusal}
 use Rattle.text.{specs.Text.{numbered, Wrote}, proofs.TextLaws.{numbered-length}}
 use Rattle.liftcount.specs.{declared.run.Stage.{Stage}, declared.run.Stage.TheVariants.{InList}, declared.run.Counts.{Counts}}
@@ -15,22 +16,22 @@ pub part-text : (s : State) → (s.held ≡ 0 → ⊥) → refusal_line 1 0 ≡ 
 part-text s h = unfold end_text in rw (ne_eqb s.held 0 h, end_text) refl
 
 -- Whole words, by the stage that they came to.
-pub whole-text : (s : State) (stage : Stage) → s.held ≡ 0 → s.progress.stage ≡ stage
+pub whole-text : (s : State) (stage : Result Stage Refusal) → s.held ≡ 0 → s.progress.stage ≡ stage
     → progress_text stage s.progress.counts s.progress.list ≡ end_text s
 unfolding end_text
 whole-text s stage h e =
-    rw (eq-eqb s.held 0 h, end_text) (ap (λ (g : Stage). progress_text g s.progress.counts s.progress.list) (sym e))
+    rw (eq-eqb s.held 0 h, end_text) (ap (λ (g : Result Stage Refusal). progress_text g s.progress.counts s.progress.list) (sym e))
 
 -- The open list ends.
 module _ (from to : ℤ) (words : ℕ) (counts : Counts) (list : List ℕ) where
   closed-by : (fault : Option Refusal) → open_fault words list ≡ fault
-      → ending_text (ended_by fault (counted from to (take words list) counts)) ≡ progress_text (InList from to words) counts list
+      → ending_text (ended_by fault (counted from to (take words list) counts)) ≡ progress_text (Ok (InList from to words)) counts list
   unfolding progress_text ended_by
   closed-by none e = rw (e, progress_text) refl
   closed-by (some r) e = rw (e, progress_text) refl
 
   pub closed-text : ending_text (ended_by (open_fault words list) (counted from to (take words list) counts))
-      ≡ progress_text (InList from to words) counts list
+      ≡ progress_text (Ok (InList from to words)) counts list
   closed-text = closed-by (open_fault words list) refl
 
 -- A number's line has at most 21 bytes.

@@ -1,4 +1,4 @@
--- How far an input has been read: the bytes that came, how many more may, and where they lead.
+-- How far an input has been read: the bytes that came, in so many turns, and where they lead.
 use Prim.Native.Nat.{ℕ, ◌+◌, ◌*◌, ◌≤◌}
 use mathlib.Core.{Path.{◌≡◌, ap, sym, ◌∙◌}, List.{List, ◌++◌}}
 use native.Mathlib.Omega.{arith}
@@ -6,10 +6,10 @@ use lib.{ListN.{length, take, length-append}, Seq.{length-take-le}}
 use Rattle.liftcount.specs.Running.{State, fed, started}
 use Rattle.liftcount.proofs.ByteLaws.{fed-append}
 
--- The bytes that came, and how many more may.
+-- The bytes that came in so many turns.
 pub record Sofar (list : List ℕ) (turns : ℕ) (s : State) : Type 0 where
   pub came : List ℕ
-  pub few : length came + 65536 * turns ≤ 72057594037927936
+  pub few : length came ≤ 65536 * turns
   pub is : s ≡ fed (started list) came
 
 -- The chunk that was read leads on from where the bytes before it led.

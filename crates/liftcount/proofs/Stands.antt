@@ -5,14 +5,15 @@ use mathlib.Core.{Path.{◌≡◌, refl, ap, sym, ◌∙◌}, Bool.{Bool, true, 
 use mathlib.Core.Option.{Option, none, some}
 use native.Mathlib.{Nat.{zero-add}, Omega.{arith}}
 use lib.{Dec.{eqb}, IntN.{ℤ}, ListN.{length, take, get_or}}
+use Rattle.std.specs.Prelude.{Result, Ok, Err}
 use Rattle.molang.specs.{FirstFailure.{must, first_of}, Words.{Refusal, row}, Lines.{version_of}}
 use Rattle.molang.proofs.FirstFailure.{after_none}
 use Rattle.listing.specs.Lists.{words_in}
-use Rattle.liftcount.specs.{declared.run.Stage.{Stage}, declared.run.Stage.TheVariants.{First, Second, Opener, InList, Refused}}
+use Rattle.liftcount.specs.{declared.run.Stage.{Stage}, declared.run.Stage.TheVariants.{First, Second, Opener, InList}}
 use Rattle.liftcount.specs.declared.run.Counts.{Counts}
 use Rattle.liftcount.specs.Counting.{opens, Cut, cut, lists_in, is_version, begins, first_fault, input_fault, count_text, refusal_line}
 use Rattle.liftcount.specs.Counting.{printed}
-use Rattle.liftcount.specs.Running.{Progress, word_taken, State, byte_taken, fed, started, lines_of, progress_text, end_text}
+use Rattle.liftcount.specs.Running.{Progress, version_taken, word_taken, State, byte_taken, fed, started, lines_of, progress_text, end_text}
 use Rattle.liftcount.specs.Steps.{Reached, Came, after_word}
 use Rattle.liftcount.proofs.{ByteLaws.{with_word, fed-four, fed-chunks}, Adding.{counted_all, counted-all}}
 use Rattle.liftcount.proofs.Cutting.{words_taken, text_of, refused-stays, cut_opened, cut-few, line_or, outcome, run_on}
@@ -93,7 +94,7 @@ taken_in words e few =
     )
 
 -- THE FIRST WORDS. No list is read, and the run is at this stage.
-abbrev at_stage : List ℕ → Stage → Progress
+abbrev at_stage : List ℕ → Result Stage Refusal → Progress
 at_stage list stage = record { stage = stage; counts = zeros; list = list }
 
 -- A word that brings the run to the next progress, and one that is no version or no opener where that has to be.
@@ -101,31 +102,31 @@ word_in : (p q : Progress) (w : ℕ) (words all : List ℕ) → with_word p w �
     → text_of (words_taken p (w ∷ words)) ≡ words_text all
 word_in p q w words all e rest = unfold words_taken in ap (λ (r : Progress). text_of (words_taken r words)) e ∙ rest
 
-refused-8 : (list : List ℕ) (p : Progress) (w : ℕ) (words all : List ℕ) → with_word p w ≡ at_stage list (Refused 8 0) → begins all ≡ false
+refused-8 : (list : List ℕ) (p : Progress) (w : ℕ) (words all : List ℕ) → with_word p w ≡ at_stage list (Err (row 8 0)) → begins all ≡ false
     → text_of (words_taken p (w ∷ words)) ≡ words_text all
 refused-8 list p w words all e turned =
-    word_in p (at_stage list (Refused 8 0)) w words all e (refused-stays 8 0 zeros list words ∙ sym (turned-back all turned))
+    word_in p (at_stage list (Err (row 8 0))) w words all e (refused-stays (row 8 0) zeros list words ∙ sym (turned-back all turned))
 
 module _ (list : List ℕ) (room : 640 ≤ length list) where
   module _ (v w : ℕ) (first : is_version v ≡ true) where
     -- Behind two versions: an opener, and the lists from there on.
     module _ (second : is_version w ≡ true) where
       at-opener : (o : ℕ) (words : List ℕ) → suc (length words) < 2 ^ 64 → (b : Bool) → opens o ≡ b
-          → text_of (words_taken (at_stage list (Opener (version_of v) (version_of w))) (o ∷ words)) ≡ words_text (v ∷ w ∷ o ∷ words)
+          → text_of (words_taken (at_stage list (Ok (Opener (version_of v) (version_of w)))) (o ∷ words)) ≡ words_text (v ∷ w ∷ o ∷ words)
       unfolding word_taken begins lists_in
       at-opener o words few true e =
           let lists : (cut (o ∷ words)).lists ≡ (cut words).before ∷ (cut words).lists = ap (λ (c : Cut). c.lists) (cut_opened o words e) in
-          word_in (at_stage list (Opener (version_of v) (version_of w))) (at_stage list (InList (version_of v) (version_of w) 0)) o words
+          word_in (at_stage list (Ok (Opener (version_of v) (version_of w)))) (at_stage list (Ok (InList (version_of v) (version_of w) 0))) o words
           (v ∷ w ∷ o ∷ words) (rw (e, word_taken))
           (run_on (version_of v) (version_of w) words [] zeros list room (omega arith) (λ none_yet. refl)
           ∙ ap (λ (ls : List (List ℕ)). outcome (version_of v) (version_of w) ls zeros) (sym lists)
           ∙ sym (taken_in (v ∷ w ∷ o ∷ words) (rw (first, second, e)) (omega (arith, cut-few (o ∷ words)))))
       at-opener o words few false e =
-          refused-8 list (at_stage list (Opener (version_of v) (version_of w))) o words (v ∷ w ∷ o ∷ words) (rw (e, word_taken))
+          refused-8 list (at_stage list (Ok (Opener (version_of v) (version_of w)))) o words (v ∷ w ∷ o ∷ words) (rw (e, word_taken))
           (rw (first, second, e))
 
       after-second : (words : List ℕ) → length words < 2 ^ 64
-          → text_of (words_taken (at_stage list (Opener (version_of v) (version_of w))) words) ≡ words_text (v ∷ w ∷ words)
+          → text_of (words_taken (at_stage list (Ok (Opener (version_of v) (version_of w)))) words) ≡ words_text (v ∷ w ∷ words)
       unfolding words_taken begins lists_in cut outcome first_fault line_or progress_text counted_all
       after-second [] few = sym (taken_in (v ∷ w ∷ []) (rw (first, second)) (omega arith))
       after-second (o ∷ words) few = at-opener o words few (opens o) refl
@@ -137,17 +138,17 @@ module _ (list : List ℕ) (room : 640 ≤ length list) where
     faulty-second (o ∷ words) e = rw (first, e)
 
     at_second : (words : List ℕ) → length words < 2 ^ 64 → (b : Bool) → is_version w ≡ b
-        → text_of (words_taken (at_stage list (Second (version_of v))) (w ∷ words)) ≡ words_text (v ∷ w ∷ words)
-    unfolding word_taken
+        → text_of (words_taken (at_stage list (Ok (Second (version_of v)))) (w ∷ words)) ≡ words_text (v ∷ w ∷ words)
+    unfolding word_taken version_taken
     at_second words few true e =
-        word_in (at_stage list (Second (version_of v))) (at_stage list (Opener (version_of v) (version_of w))) w words (v ∷ w ∷ words)
-        (rw (e, word_taken)) (after-second e words few)
+        word_in (at_stage list (Ok (Second (version_of v)))) (at_stage list (Ok (Opener (version_of v) (version_of w)))) w words (v ∷ w ∷ words)
+        (rw (e, version_taken)) (after-second e words few)
     at_second words few false e =
-        refused-8 list (at_stage list (Second (version_of v))) w words (v ∷ w ∷ words) (rw (e, word_taken)) (faulty-second words e)
+        refused-8 list (at_stage list (Ok (Second (version_of v)))) w words (v ∷ w ∷ words) (rw (e, version_taken)) (faulty-second words e)
 
   -- The first version.
   after_first : (v : ℕ) (words : List ℕ) → length words < 2 ^ 64 → is_version v ≡ true
-      → text_of (words_taken (at_stage list (Second (version_of v))) words) ≡ words_text (v ∷ words)
+      → text_of (words_taken (at_stage list (Ok (Second (version_of v)))) words) ≡ words_text (v ∷ words)
   unfolding words_taken progress_text begins
   after_first v [] few first = sym (turned-back (v ∷ []) refl)
   after_first v (w ∷ words) few first = at_second v w first words (omega arith) (is_version w) refl
@@ -159,14 +160,14 @@ module _ (list : List ℕ) (room : 640 ≤ length list) where
   faulty-first v (w ∷ o ∷ words) e = rw e
 
   at_first : (v : ℕ) (words : List ℕ) → length words < 2 ^ 64 → (b : Bool) → is_version v ≡ b
-      → text_of (words_taken (at_stage list First) (v ∷ words)) ≡ words_text (v ∷ words)
-  unfolding word_taken
+      → text_of (words_taken (at_stage list (Ok First)) (v ∷ words)) ≡ words_text (v ∷ words)
+  unfolding word_taken version_taken
   at_first v words few true e =
-      word_in (at_stage list First) (at_stage list (Second (version_of v))) v words (v ∷ words) (rw (e, word_taken)) (after_first v words few e)
-  at_first v words few false e = refused-8 list (at_stage list First) v words (v ∷ words) (rw (e, word_taken)) (faulty-first v words e)
+      word_in (at_stage list (Ok First)) (at_stage list (Ok (Second (version_of v)))) v words (v ∷ words) (rw (e, version_taken)) (after_first v words few e)
+  at_first v words few false e = refused-8 list (at_stage list (Ok First)) v words (v ∷ words) (rw (e, version_taken)) (faulty-first v words e)
 
   -- THE WORDS OF AN INPUT, taken from its beginning on, come to what is printed for them.
-  from_start : (words : List ℕ) → length words < 2 ^ 64 → text_of (words_taken (at_stage list First) words) ≡ words_text words
+  from_start : (words : List ℕ) → length words < 2 ^ 64 → text_of (words_taken (at_stage list (Ok First)) words) ≡ words_text words
   unfolding words_taken progress_text begins
   from_start [] few = sym (turned-back [] refl)
   from_start (v ∷ words) few = at_first v words (omega arith) (is_version v) refl
@@ -178,8 +179,8 @@ pub stands : (input : List ℕ) → length input < 2 ^ 64 → (chunks : List (Li
 unfolding started
 stands input few chunks e list size =
     ap end_text (fed-chunks (started list) chunks ∙ ap (fed (started list)) e)
-    ∙ fed-bytes (at_stage list First) input
-    ∙ printed-by input (at_stage list First) (from_start list (omega arith) (words_in input) (omega (arith, words-few input)))
+    ∙ fed-bytes (at_stage list (Ok First)) input
+    ∙ printed-by input (at_stage list (Ok First)) (from_start list (omega arith) (words_in input) (omega (arith, words-few input)))
     (eqb (length input % 4) 0) refl
 
 -- WHAT CHUNKS LED TO is what a whole input leads to, and what is printed then is what is printed for that input.

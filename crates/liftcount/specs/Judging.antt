@@ -1,16 +1,14 @@
 -- What the open list comes to, by the cases of the code: what two answers are beside each other, and how a list ends.
-use Rattle.std.specs.Prelude.{ℕ, ◌*◌, ◌≤◌, ◌≡◌, Bool, true, false, List, eqb, length, take}
+use Rattle.std.specs.Prelude.{Result, Ok, Err, ℕ, ◌*◌, ◌≤◌, Bool, true, false, List, eqb, length, take}
 use Rattle.std.proofs.Math.Option.{Option, none, some}
 use Rattle.molang.specs.Forest.{nil, node}
-use Rattle.molang.specs.Words.{Refusal, tree_words}
+use Rattle.molang.specs.Words.{Refusal, row, tree_words}
 use Rattle.molang.specs.Read.{Answer, tree as Answer·tree, messages as Answer·messages}
 use Rattle.molang.specs.Parse.{Told, a_tree, some_messages, refused}
 use Rattle.molang.specs.Lift.{eq_words}
 use Rattle.liftcount.specs.declared.run.Counts.{Counts}
 use Rattle.liftcount.specs.declared.judge.Verdict.{Verdict}
-use Rattle.liftcount.specs.declared.judge.Verdict.TheVariants.{Refused as Verdict-as-Refused, Same, Different, One, Both}
-use Rattle.liftcount.specs.declared.close.Ending.{Ending}
-use Rattle.liftcount.specs.declared.close.Ending.TheVariants.{Refused as Ending-as-Refused, Counted}
+use Rattle.liftcount.specs.declared.judge.Verdict.TheVariants.{Same, Different, One, Both}
 use Rattle.liftcount.specs.Running.{more}
 
 -- ---- Two answers
@@ -28,9 +26,9 @@ verdict_on (Answer·messages ms) (Answer·tree l ds) = One
 verdict_on (Answer·messages ms) (Answer·messages ns) = Both
 
 -- WHAT A LIST COMES TO: it is turned back, or it is read at both versions.
-unfoldable pub judged : Option Refusal → Answer → Answer → Verdict
-judged (some r) first second = Verdict-as-Refused r.number r.place
-judged none first second = verdict_on first second
+unfoldable pub judged : Option Refusal → Answer → Answer → Result Verdict Refusal
+judged (some r) first second = Err r
+judged none first second = Ok (verdict_on first second)
 
 -- ---- The same by what is told and what the buffers hold
 
@@ -44,46 +42,30 @@ Holds (refused number place) buffer = Unit {0}
 unfoldable pub trees_told : ℕ → ℕ → List ℕ → List ℕ → Verdict
 trees_told n m tree again = elim (eqb n m) [ true ↦ trees_by (eq_words (take (7 * n) tree) (take (7 * n) again)) | false ↦ Different ]
 
--- A tree of n nodes at the first version, and what is told at the second.
-abbrev pub after_tree : ℕ → Told → List ℕ → List ℕ → Verdict
-after_tree n (a_tree m) tree again = trees_told n m tree again
-after_tree n (some_messages m) tree again = One
-after_tree n (refused number place) tree again = Verdict-as-Refused number place
-
--- Messages at the first version, and what is told at the second.
-abbrev pub after_messages : Told → Verdict
-after_messages (a_tree m) = One
-after_messages (some_messages m) = Both
-after_messages (refused number place) = Verdict-as-Refused number place
-
 -- What is told at both.
-abbrev pub verdict_told : Told → Told → List ℕ → List ℕ → Verdict
-verdict_told (a_tree n) second tree again = after_tree n second tree again
-verdict_told (some_messages n) second tree again = after_messages second
-verdict_told (refused number place) second tree again = Verdict-as-Refused number place
-
--- The lengths of the lent scratch: two trees of 384 nodes, two records, and the work for 128 tokens.
-pub record Scratch (tree again messages work : List ℕ) : Type 0 where
-  pub first_tree : length tree ≡ 2688
-  pub second_tree : length again ≡ 2688
-  pub two_records : length messages ≡ 16
-  pub work_words : length work ≡ 8256
+abbrev pub verdict_told : Told → Told → List ℕ → List ℕ → Result Verdict Refusal
+verdict_told (a_tree n) (a_tree m) tree again = Ok (trees_told n m tree again)
+verdict_told (a_tree n) (some_messages m) tree again = Ok One
+verdict_told (a_tree n) (refused number place) tree again = Err (row number place)
+verdict_told (some_messages n) (a_tree m) tree again = Ok One
+verdict_told (some_messages n) (some_messages m) tree again = Ok Both
+verdict_told (some_messages n) (refused number place) tree again = Err (row number place)
+verdict_told (refused number place) second tree again = Err (row number place)
 
 -- ---- The end of a list
 
--- The counts with a list that came to this; a refused one is not counted.
-abbrev pub tallied_by : Verdict → Counts → Ending
-tallied_by (Verdict-as-Refused number place) c = Ending-as-Refused number place
+-- The counts with a list that came to this.
+abbrev pub tallied_by : Verdict → Counts → Counts
 tallied_by Same c =
-    Counted (record { read = more c.read; same = more c.same; different = c.different; one = c.one; both = c.both })
+    record { read = more c.read; same = more c.same; different = c.different; one = c.one; both = c.both }
 tallied_by Different c =
-    Counted (record { read = more c.read; same = c.same; different = more c.different; one = c.one; both = c.both })
+    record { read = more c.read; same = c.same; different = more c.different; one = c.one; both = c.both }
 tallied_by One c =
-    Counted (record { read = more c.read; same = c.same; different = c.different; one = more c.one; both = c.both })
+    record { read = more c.read; same = c.same; different = c.different; one = more c.one; both = c.both }
 tallied_by Both c =
-    Counted (record { read = more c.read; same = c.same; different = c.different; one = c.one; both = more c.both })
+    record { read = more c.read; same = c.same; different = c.different; one = c.one; both = more c.both }
 
 -- HOW A LIST ENDS: refused, or with these counts.
-unfoldable pub ended_by : Option Refusal → Counts → Ending
-ended_by (some r) c = Ending-as-Refused r.number r.place
-ended_by none c = Counted c
+unfoldable pub ended_by : Option Refusal → Counts → Result Counts Refusal
+ended_by (some r) c = Err r
+ended_by none c = Ok c

@@ -1,19 +1,26 @@
 -- The run of the program over an input, byte by byte: what it holds after each, and what is printed at the end. That this is `printed` of
 -- the whole input, whatever the chunks that it came in, is a theorem (`Stands`).
-use Rattle.std.specs.Prelude.{ℕ, ◌+◌, ◌*◌, ◌/◌, ◌%◌, ◌^◌, Bool, true, false, List, [], ◌∷◌, eqb, leb, ltb, ℤ, take, set}
+use Rattle.std.specs.Prelude.{Result, Ok, Err, ℕ, ◌+◌, ◌*◌, ◌/◌, ◌%◌, ◌^◌, Bool, true, false, List, [], ◌∷◌, eqb, leb, ltb, ℤ, take, set}
 use Rattle.std.proofs.Math.Option.{Option, none, some}
 use Rattle.molang.specs.FirstFailure.{must, first_of}
 use Rattle.molang.specs.Words.{Refusal, row, operator_field, words_refusal}
 use Rattle.molang.specs.Lines.{version_of}
+use Rattle.words.specs.Refusals.{refusal_row}
+use Rattle.words.specs.declared.refusals.Refusal as code
 use Rattle.liftcount.specs.declared.run.Stage.{Stage}
-use Rattle.liftcount.specs.declared.run.Stage.TheVariants.{First, Second, Opener, InList, Refused}
+use Rattle.liftcount.specs.declared.run.Stage.TheVariants.{First, Second, Opener, InList}
 use Rattle.liftcount.specs.declared.run.Counts.{Counts}
 use Rattle.liftcount.specs.declared.run.Run.{Run}
 use Rattle.liftcount.specs.Counting.{opens, is_version, same_tree, different_trees, message_at_one, message_at_both, count_lines, refusal_line}
 
--- What the run has come to after whole words: its stage, its counts, and the words of the open list in front of a buffer of 640.
+-- A result with its refusal as the definition has it: the number and the place.
+abbrev pub refused_row : {T : Type 0} → Result T code.Refusal → Result T Refusal
+refused_row (Ok x) = Ok x
+refused_row (Err r) = Err (refusal_row r)
+
+-- What the run has come to after whole words: its stage or the refusal, its counts, and the words of the open list in front of a buffer of 640.
 pub record Progress : Type 0 where
-  pub stage : Stage
+  pub stage : Result Stage Refusal
   pub counts : Counts
   pub list : List ℕ
 
@@ -46,32 +53,39 @@ open_fault words list =
 unfoldable pub reopened : ℤ → ℤ → ℕ → Counts → List ℕ → Progress
 reopened from to words counts list =
     elim (open_fault words list) [
-      | some r ↦ record { stage = Refused r.number r.place; counts = counts; list = list }
+      | some r ↦ record { stage = Err r; counts = counts; list = list }
       | none ↦ record {
-        stage = InList from to 0;
+        stage = Ok (InList from to 0);
         counts = counted from to (take words list) counts;
         list = list;
       }
     ]
 
+-- The version that a version word says.
+unfoldable pub version_taken : ℕ → Result ℤ Refusal
+version_taken w = elim (is_version w) [ true ↦ Ok (version_of w) | false ↦ Err (row 8 0) ]
+
+-- The stage that a version leads to.
+abbrev pub staged : (ℤ → Stage) → Result ℤ Refusal → Result Stage Refusal
+staged stage (Ok version) = Ok (stage version)
+staged stage (Err r) = Err r
+
 -- A WORD of the input. After a refusal none is looked at.
-unfoldable pub word_taken : Stage → Counts → List ℕ → ℕ → Progress
-word_taken First counts list w =
-    record { stage = elim (is_version w) [ true ↦ Second (version_of w) | false ↦ Refused 8 0 ]; counts = counts; list = list }
-word_taken (Second from) counts list w =
-    record { stage = elim (is_version w) [ true ↦ Opener from (version_of w) | false ↦ Refused 8 0 ]; counts = counts; list = list }
-word_taken (Opener from to) counts list w =
-    record { stage = elim (opens w) [ true ↦ InList from to 0 | false ↦ Refused 8 0 ]; counts = counts; list = list }
-word_taken (InList from to words) counts list w =
+unfoldable pub word_taken : Result Stage Refusal → Counts → List ℕ → ℕ → Progress
+word_taken (Ok First) counts list w = record { stage = staged Second (version_taken w); counts = counts; list = list }
+word_taken (Ok (Second from)) counts list w = record { stage = staged (Opener from) (version_taken w); counts = counts; list = list }
+word_taken (Ok (Opener from to)) counts list w =
+    record { stage = elim (opens w) [ true ↦ Ok (InList from to 0) | false ↦ Err (row 8 0) ]; counts = counts; list = list }
+word_taken (Ok (InList from to words)) counts list w =
     elim (opens w) [
       | true ↦ reopened from to words counts list
       | false ↦ record {
-        stage = InList from to (more words);
+        stage = Ok (InList from to (more words));
         counts = counts;
         list = set list words w;
       }
     ]
-word_taken (Refused number place) counts list w = record { stage = Refused number place; counts = counts; list = list }
+word_taken (Err r) counts list w = record { stage = Err r; counts = counts; list = list }
 
 -- What the program holds: how many bytes of a word have come, these bytes in the upper bits of a word, and what whole words came to.
 pub record State : Type 0 where
@@ -82,7 +96,7 @@ pub record State : Type 0 where
 -- The state that a run and its list's buffer are.
 abbrev pub state_of : Run → List ℕ → State
 state_of run list =
-    record { held = run.held; partial = run.partial; progress = record { stage = run.stage; counts = run.counts; list = list } }
+    record { held = run.held; partial = run.partial; progress = record { stage = refused_row run.stage; counts = run.counts; list = list } }
 
 -- A byte of the input enters at the top of the word that has begun; with the fourth the word is taken.
 unfoldable pub byte_taken : State → ℕ → State
@@ -109,7 +123,7 @@ started list =
     record {
       held = 0;
       partial = 0;
-      progress = record { stage = First; counts = record { read = 0; same = 0; different = 0; one = 0; both = 0 }; list = list };
+      progress = record { stage = Ok First; counts = record { read = 0; same = 0; different = 0; one = 0; both = 0 }; list = list };
     }
 
 -- The lines of counts.
@@ -117,13 +131,13 @@ unfoldable pub lines_of : Counts → List ℕ
 lines_of c = count_lines c.read c.same c.different c.one c.both
 
 -- What is printed after whole words: the end of the input ends the open list.
-unfoldable pub progress_text : Stage → Counts → List ℕ → List ℕ
-progress_text First counts list = refusal_line 8 0
-progress_text (Second from) counts list = refusal_line 8 0
-progress_text (Opener from to) counts list = lines_of counts
-progress_text (InList from to words) counts list =
+unfoldable pub progress_text : Result Stage Refusal → Counts → List ℕ → List ℕ
+progress_text (Ok First) counts list = refusal_line 8 0
+progress_text (Ok (Second from)) counts list = refusal_line 8 0
+progress_text (Ok (Opener from to)) counts list = lines_of counts
+progress_text (Ok (InList from to words)) counts list =
     elim (open_fault words list) [ some r ↦ refusal_line r.number r.place | none ↦ lines_of (counted from to (take words list) counts) ]
-progress_text (Refused number place) counts list = refusal_line number place
+progress_text (Err r) counts list = refusal_line r.number r.place
 
 -- WHAT IS PRINTED at the end of the input: bytes of a word that is not whole are answered first.
 unfoldable pub end_text : State → List ℕ

@@ -1,16 +1,15 @@
 -- What the code's steps come to, by their parts: the stage after a word, how the next list opens, what an ending prints; and what chunks
 -- lead to.
-use Rattle.std.specs.Prelude.{ℕ, ◌^◌, ◌<◌, ◌≡◌, List, ◌++◌, ℤ, length, take}
+use Rattle.std.specs.Prelude.{Result, Ok, Err, ℕ, ◌^◌, ◌<◌, ◌≡◌, List, ◌++◌, ℤ, length, take}
 use Rattle.liftcount.specs.declared.run.Stage.{Stage}
-use Rattle.liftcount.specs.declared.run.Stage.TheVariants.{InList, Refused}
+use Rattle.liftcount.specs.declared.run.Stage.TheVariants.{InList}
 use Rattle.liftcount.specs.declared.run.Counts.{Counts}
-use Rattle.liftcount.specs.declared.close.Ending.{Ending}
-use Rattle.liftcount.specs.declared.close.Ending.TheVariants.{Refused as Ending-as-Refused, Counted}
+use Rattle.molang.specs.Words.{Refusal}
 use Rattle.liftcount.specs.Counting.{refusal_line, printed}
 use Rattle.liftcount.specs.Running.{State, Progress, fed, started, lines_of}
 
 -- What whole words came to, by its parts.
-abbrev pub at_stage : Stage → Counts → List ℕ → Progress
+abbrev pub at_stage : Result Stage Refusal → Counts → List ℕ → Progress
 at_stage stage counts list = record { stage = stage; counts = counts; list = list }
 
 -- WHAT CHUNKS OF AN INPUT LEAD TO, from where the program starts with a list's buffer: some bytes, and behind them those that came last,
@@ -38,11 +37,11 @@ abbrev pub after_word : Progress → State
 after_word p = record { held = 0; partial = 0; progress = p }
 
 -- What whole words came to where an opener has ended a list so.
-abbrev pub opened_after : Ending → ℤ → ℤ → Counts → List ℕ → Progress
-opened_after (Ending-as-Refused number place) from to counts list = at_stage (Refused number place) counts list
-opened_after (Counted next) from to counts list = at_stage (InList from to 0) next list
+abbrev pub opened_after : Result Counts Refusal → ℤ → ℤ → Counts → List ℕ → Progress
+opened_after (Err r) from to counts list = at_stage (Err r) counts list
+opened_after (Ok next) from to counts list = at_stage (Ok (InList from to 0)) next list
 
 -- What is printed where the input ends so.
-abbrev pub ending_text : Ending → List ℕ
-ending_text (Ending-as-Refused number place) = refusal_line number place
-ending_text (Counted counts) = lines_of counts
+abbrev pub ending_text : Result Counts Refusal → List ℕ
+ending_text (Err r) = refusal_line r.number r.place
+ending_text (Ok counts) = lines_of counts

@@ -1,36 +1,34 @@
 // What the open list comes to at both versions. Leans on own (the reading), parse (its answer) and words; specs/Judging has the definition.
-ghost use Rattle.std.specs.Prelude.{◌≡◌, ◌*◌, ◌/◌, ◌≤◌, length, take};
+ghost use Rattle.std.specs.Prelude.{Ok, ◌≡◌, ◌*◌, ◌%◌, ◌≤◌, length, take};
 ghost use Rattle.molang.specs.Words.{operator_field, words_refusal};
 ghost use Rattle.parse.specs.Answers.{told_of};
 ghost use Rattle.own.specs.Own.{reading_of, Readable};
-ghost use Rattle.liftcount.specs.Running.{open_fault};
-ghost use Rattle.liftcount.specs.Judging.{Holds, after_tree, after_messages, verdict_told, judged, Scratch};
+ghost use Rattle.liftcount.specs.Running.{refused_row, open_fault};
+ghost use Rattle.liftcount.specs.Judging.{Holds, verdict_told, judged};
 
+use crate::run::{ListBuffer, MOST_WORDS, MessageBuffer, TreeBuffer, WorkBuffer};
 use own::beside::same_words;
 use own::read_list;
 use parse::Answer;
-use words::{fields, refusals};
+use words::fields;
+use words::refusals::{Reason, Refusal};
 
-// The most words of a list.
-const MOST_WORDS: usize = 640;
-
-// What a list comes to: a refusal's number and place, the same tree, different trees, messages at one version only, messages at both.
+// What a list that is not refused comes to: the same tree, different trees, messages at one version only, messages at both.
 #[derive(Clone, Copy)]
 pub enum Verdict {
-    Refused(u32, usize),
     Same,
     Different,
     One,
     Both,
 }
 
-// A tree of n nodes at the first version, and the answer at the second. A told tree stands in its buffer, here and below.
-fn after_tree(n: usize, second: Answer, tree: &[u32], again: &[u32]) -> Verdict
-    requires { (7 * n ≤ length tree.now) × (Holds (told_of second) again.now) }
-    ensures { result ≡ after_tree n (told_of second) tree.now again.now }
+// The two answers. A told tree stands in its buffer.
+fn compared(first: Answer, second: Answer, tree: &[u32], again: &[u32]) -> Verdict
+    requires { (Holds (told_of (Ok first)) tree.now) × (Holds (told_of (Ok second)) again.now) }
+    ensures { Ok result ≡ verdict_told (told_of (Ok first)) (told_of (Ok second)) tree.now again.now }
 {
-    match second {
-        Answer::Tree(m) => {
+    match (first, second) {
+        (Answer::Tree(n), Answer::Tree(m)) => {
             if n != m {
                 return Verdict::Different;
             }
@@ -39,85 +37,52 @@ fn after_tree(n: usize, second: Answer, tree: &[u32], again: &[u32]) -> Verdict
             }
             Verdict::Different
         }
-        Answer::Messages(_) => Verdict::One,
-        Answer::Refused(number, place) => Verdict::Refused(number, place),
+        (Answer::Messages(_), Answer::Messages(_)) => Verdict::Both,
+        _ => Verdict::One,
     }
 }
 
-// Messages at the first version, and the answer at the second.
-fn after_messages(second: Answer) -> Verdict
-    ensures { result ≡ after_messages (told_of second) }
-{
-    match second {
-        Answer::Tree(_) => Verdict::One,
-        Answer::Messages(_) => Verdict::Both,
-        Answer::Refused(number, place) => Verdict::Refused(number, place),
-    }
-}
-
-// The two answers.
-fn compared(first: Answer, second: Answer, tree: &[u32], again: &[u32]) -> Verdict
-    requires { (Holds (told_of first) tree.now) × (Holds (told_of second) again.now) }
-    ensures { result ≡ verdict_told (told_of first) (told_of second) tree.now again.now }
-{
-    match first {
-        Answer::Tree(n) => after_tree(n, second, tree, again),
-        Answer::Messages(_) => after_messages(second),
-        Answer::Refused(number, place) => Verdict::Refused(number, place),
-    }
-}
-
-// Reads a list at both versions. `judge` has seen that it has whole tokens, at most 128, and lends buffers that are long enough.
+// Reads a list at both versions. `judge` has seen that it has whole tokens, at most 128. The entry clears all the work that it is lent, so
+// that it is lent what the tokens need.
 fn read_twice(
     list: &[u32],
     from: i16,
     to: i16,
-    tree: &mut [u32],
-    again: &mut [u32],
-    messages: &mut [u32],
-    work: &mut [u32],
-) -> Verdict
-    requires readable { Readable list.now tree.old messages.old work.old }
-    requires readable_2 { Readable list.now again.old messages.old work.old }
-    ensures { result ≡ judged (words_refusal 0 operator_field 0 list.now)
+    tree: &mut TreeBuffer,
+    again: &mut TreeBuffer,
+    messages: &mut MessageBuffer,
+    work: &mut WorkBuffer,
+) -> Result<Verdict, Refusal>
+    requires { (length list.now % 5 ≡ 0) × (length list.now ≤ 640) }
+    ensures { refused_row result ≡ judged (words_refusal 0 operator_field 0 list.now)
         (reading_of list.now from) (reading_of list.now to) }
 {
-    let first = read_list(list, tree, messages, work, from);
-    let second = read_list(list, again, messages, work, to);
-    compared(first, second, tree, again)
+    let room = 64 * (list.len() / fields::TOKEN_WORDS) + 64;
+    let part = &mut work[..room];
+    let first = read_list(list, tree, messages, part, from)?;
+    let second = read_list(list, again, messages, part, to)?;
+    Ok(compared(first, second, tree, again))
 }
 
-// What the open list comes to, which is so many words in front of its buffer; the buffers are of the lengths that `feed` and `close_last`
-// give them. The entry clears all the work that it is lent, so that it is lent what the tokens need.
+// What the open list comes to, which is so many words in front of its buffer.
 pub fn judge(
-    list: &[u32],
+    list: &ListBuffer,
     words: usize,
     from: i16,
     to: i16,
-    tree: &mut [u32],
-    again: &mut [u32],
-    messages: &mut [u32],
-    work: &mut [u32],
-) -> Verdict
-    requires list_len { length list.now ≡ 640 }
-    requires scratch { Scratch tree.old again.old messages.old work.old }
-    ensures { result ≡ judged (open_fault words list.now)
+    tree: &mut TreeBuffer,
+    again: &mut TreeBuffer,
+    messages: &mut MessageBuffer,
+    work: &mut WorkBuffer,
+) -> Result<Verdict, Refusal>
+    ensures { refused_row result ≡ judged (open_fault words list.now)
         (reading_of (take words list.now) from) (reading_of (take words list.now) to) }
 {
     if words % fields::TOKEN_WORDS != 0 {
-        return Verdict::Refused(refusals::LIST_NOT_WHOLE, 0);
+        return Err(Reason::ListNotWhole.at(0));
     }
     if MOST_WORDS < words {
-        return Verdict::Refused(refusals::TOO_MANY_TOKENS, 0);
+        return Err(Reason::TooManyTokens.at(0));
     }
-    let room = 64 * (words / fields::TOKEN_WORDS) + 64;
-    read_twice(
-        &list[..words],
-        from,
-        to,
-        tree,
-        again,
-        messages,
-        &mut work[..room],
-    )
+    read_twice(&list[..words], from, to, tree, again, messages, work)
 }

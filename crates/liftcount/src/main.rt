@@ -11,18 +11,15 @@ mod judge;
 mod run;
 mod step;
 
-ghost use Rattle.std.specs.Prelude.{◌≡◌, List, ℕ, ◌≤◌, length, take};
-ghost use Rattle.liftcount.specs.Running.{state_of, started, fed};
+ghost use Rattle.std.specs.Prelude.{◌≡◌, List, ℕ, length, IfSome};
+ghost use Rattle.liftcount.specs.Running.{state_of, started};
 ghost use Rattle.liftcount.specs.Steps.{Reached, Came, IsPrinted};
 
 use crate::feed::feed;
 use crate::finish::finish;
-use crate::run::{Counts, Run, Stage};
+use crate::run::{Counts, ListBuffer, MOST_WORDS, Run, Stage};
 use std::io::Read;
-use streams::{End, fill};
-
-// How often a chunk is read. A proved loop has to end, and nothing says that an input does: no run uses this up.
-const TURNS: usize = 1_099_511_627_776;
+use streams::{TURNS, fill};
 
 // Where the program starts.
 fn start() -> Run
@@ -38,53 +35,34 @@ fn start() -> Run
     Run {
         held: 0,
         partial: 0,
-        stage: Stage::First,
+        stage: Ok(Stage::First),
         counts,
     }
 }
 
-// What an input has come to: the run, how many bytes came last, and why they were no more.
+// What an input has come to that was read to its end: the run, and how many bytes came last.
 #[derive(Clone, Copy)]
 struct Reading {
     run: Run,
     last: usize,
-    end: End,
 }
 
-// One chunk more, which lies in front of the space.
-fn read_on<R: Read>(input: &mut R, run: Run, list: &mut [u32], space: &mut [u8]) -> Reading
-    requires { (length list.old ≡ 640) × (length space.old ≡ 65536) }
-    ensures last_in_bounds { result.last ≤ length space.new }
-    ensures list_after { state_of result.run list.new ≡ fed (state_of run list.old) (take result.last space.new) }
-{
-    let came = fill(input, space);
-    let last = came.bytes;
-    let run = feed(run, list, &space[..last]);
-    let end = came.end;
-    Reading { run, last, end }
-}
-
-// Reads on as long as chunks fill the space; what the input came to. `main` lends both buffers.
-fn read_input<R: Read>(input: &mut R, list: &mut [u32], space: &mut [u8]) -> Reading
-    requires { (length list.old ≡ 640) × (length space.old ≡ 65536) }
-    ensures { Reached list.old space.new result.last (state_of result.run list.new) }
+// Reads on as long as chunks fill the space; what the input came to, or nothing if a read fails. `main` lends the space.
+fn read_input<R: Read>(input: &mut R, list: &mut ListBuffer, space: &mut [u8]) -> Option<Reading>
+    requires { length space.old ≡ 65536 }
+    ensures { IfSome result (λ reading. Reached list.old space.new reading.last (state_of reading.run list.new)) }
 {
     let mut run = start();
-    let mut turns = TURNS;
-    while 0 < turns {
-        turns -= 1;
-        let next = read_on(input, run, list, space);
-        let end = next.end;
-        let End::Full = end else {
-            return next;
+    for _ in 0..TURNS {
+        let Ok(last) = fill(input, space) else {
+            return None;
         };
-        run = next.run;
+        run = feed(run, list, &space[..last]);
+        if last < space.len() {
+            return Some(Reading { run, last });
+        }
     }
-    Reading {
-        run,
-        last: 0,
-        end: End::Full,
-    }
+    None
 }
 
 // A line on standard error; nothing more is printed.
@@ -102,8 +80,8 @@ fn hand<S: Print + Eprint>(rt: &S, text: &[u8])
 }
 
 // Prints what an input came to that has ended.
-fn answer<S: Print + Eprint>(rt: &S, run: Run, list: &[u32])
-    requires { (length list.now ≡ 640) × Came (state_of run list.now) }
+fn answer<S: Print + Eprint>(rt: &S, run: Run, list: &ListBuffer)
+    requires { Came (state_of run list.now) }
 {
     let mut out = [0u8; 128];
     let n = finish(run, list, &mut out);
@@ -112,13 +90,10 @@ fn answer<S: Print + Eprint>(rt: &S, run: Run, list: &[u32])
 
 fn main(rt: HostRuntime) {
     let mut input = rt.stdin();
-    let mut list = [0u32; 640];
+    let mut list = [0u32; MOST_WORDS];
     let mut space = io::large_buffer();
-    let reading = read_input(&mut input, &mut list, &mut space);
-    let run = reading.run;
-    let end = reading.end;
-    match end {
-        End::Ended => answer(&rt, run, &list),
-        End::Full | End::Failed => fail(&rt, "liftcount: a read failed, and nothing is counted"),
+    match read_input(&mut input, &mut list, &mut space) {
+        Some(reading) => answer(&rt, reading.run, &list),
+        None => fail(&rt, "liftcount: a read failed, and nothing is counted"),
     }
 }

@@ -1,14 +1,14 @@
 -- The run's places, one behind the other, and what is handed over at each. Assumes nothing.
-use Prim.Native.Nat.{ℕ, suc, ◌+◌, ◌*◌, ◌^◌, ◌≤◌, ◌<◌}
+use Prim.Native.Nat.{ℕ, ◌+◌, ◌*◌, ◌%◌, ◌^◌, ◌≤◌, ◌<◌}
 use mathlib.Core.{Path.{◌≡◌, refl, ap, sym, ◌∙◌}, List.{List, [], ◌∷◌, ◌++◌, append_assoc, append-nil}}
 use native.Mathlib.Omega.{arith}
-use lib.{ListN.{length, take, get_or, length-take}, Seq.{take-add, drop-cons}}
+use lib.ListN.{length, take, get_or, length-take}
 use borrow.Author.Tests.{lt-ltb, le-ltb}
 use Rattle.listing.specs.Lists.{words_in}
 use Rattle.text.{specs.Text.{Wrote}, proofs.TextLaws.{wrote_then}}
 use Rattle.liftlists.specs.declared.step.Step.{Step}
 use Rattle.liftlists.specs.LiftedFile.{bytes_of, bytes_behind, is_version_word, lifted_words, refused_line, lifted_behind, lifted_file}
-use Rattle.liftlists.specs.{Steps.{LiftScratch, held_in, Took}, Going.{FileGoes, file_from, yet, PlaceReached, IsLastPiece}}
+use Rattle.liftlists.specs.{Steps.{held_in, Took}, Going.{FileGoes, file_from, yet, PlaceReached, IsLastPiece}}
 use Rattle.liftlists.proofs.PutLaws.{bytes-append, wrote-taken}
 
 -- FROM PLACE TO PLACE
@@ -41,34 +41,30 @@ took-goes {to} {held} {a} {b} {c} {d} {most} {out} {at} {step} {list} {out'} roo
           ∙ sym (append_assoc (take at out) (bytes_of t.gave) (bytes_of later ++ bytes_behind rest)));
     }
 
--- FOUR BYTES MORE of a chunk.
-next-four : (bytes : List ℕ) (at : ℕ) → at + 4 ≤ length bytes
-    → take (at + 4) bytes ≡ take at bytes ++ (get_or bytes at 0 ∷ get_or bytes (at + 1) 0 ∷ get_or bytes (at + 2) 0 ∷ get_or bytes (at + 3) 0 ∷ [])
-next-four bytes at h =
-    let one : at + 1 ≡ suc at = omega arith in
-    let two : at + 2 ≡ suc (suc at) = omega arith in
-    let three : at + 3 ≡ suc (suc (suc at)) = omega arith in
-    take-add at 4 bytes
-    ∙ rw (
-      one,
-      two,
-      three,
-      drop-cons bytes at 0 (omega arith),
-      drop-cons bytes (suc at) 0 (omega arith),
-      drop-cons bytes (suc (suc at)) 0 (omega arith),
-      drop-cons bytes (suc (suc (suc at))) 0 (omega arith),
-    ) refl
+-- Four bytes, one by one.
+pub four-first : (first : List ℕ) → length first ≡ 4 → first ≡ get_or first 0 0 ∷ get_or first 1 0 ∷ get_or first 2 0 ∷ get_or first 3 0 ∷ []
+four-first [] h = absurd (omega arith)
+four-first (a ∷ []) h = absurd (omega arith)
+four-first (a ∷ b ∷ []) h = absurd (omega arith)
+four-first (a ∷ b ∷ c ∷ []) h = absurd (omega arith)
+four-first (a ∷ b ∷ c ∷ d ∷ []) h = refl
+four-first (a ∷ b ∷ c ∷ d ∷ e ∷ more) h = absurd (omega arith)
 
+-- A WORD MORE of a chunk.
 module _ {here : List ℕ → List ℕ} {most : ℕ} {step : Step} {list out' : List ℕ} (to : ℕ) (held out : List ℕ) (at start : ℕ)
-    (chunk : List ℕ) (i : ℕ) where
-  pub word-goes : i + 4 ≤ length chunk → start ≤ length out → FileGoes here (take i chunk) (yet to held out at)
+    (came word : List ℕ) where
+  pub word-goes : length word ≡ 4 → start ≤ length out → FileGoes here came (yet to held out at)
       → FileGoes (yet to held out at) [] (yet to held out start)
       → Took to held
-      (get_or chunk i 0 + 2 ^ 8 * get_or chunk (i + 1) 0 + 2 ^ 16 * get_or chunk (i + 2) 0 + 2 ^ 24 * get_or chunk (i + 3) 0) most out start step list
-      out'
-      → FileGoes here (take (i + 4) chunk) (yet to (held_in step.stage list) out' step.at)
+      (get_or word 0 0 + 2 ^ 8 * get_or word 1 0 + 2 ^ 16 * get_or word 2 0 + 2 ^ 24 * get_or word 3 0) most out start step list out'
+      → FileGoes here (came ++ word) (yet to (held_in step.stage list) out' step.at)
   word-goes h room before spilled took =
-      rw (next-four chunk i h) (goes_then before (goes_then spilled (took-goes room took)))
+      rw (four-first word h) (goes_then before (goes_then spilled (took-goes room took)))
+
+-- Whole words of fewer bytes than one has are none.
+pub none-left : (left : List ℕ) → length left % 4 ≡ 0 → length left < 4 → left ≡ []
+none-left [] whole few = refl
+none-left (a ∷ left) whole few = absurd (omega arith)
 
 -- THE END OF THE INPUT: at most three bytes are no word.
 short-words : (tail : List ℕ) → length tail ≤ 3 → (words_in tail ≡ []) × (bytes_behind tail ≡ tail)
@@ -115,30 +111,6 @@ pub refused-first : (a b c d : ℕ) (v : ℕ) → v ≡ a + 2 ^ 8 * b + 2 ^ 16 *
     → lifted_file (a ∷ b ∷ c ∷ d ∷ rest) ≡ refused_line
 unfolding lifted_file lifted_behind is_version_word words_in
 refused-first a b c d v e h rest = rw (← e, le-ltb v 65536 h, lifted_behind) refl
-
--- The first four bytes of an input.
-pub four-first : (first : List ℕ) → length first ≡ 4 → first ≡ get_or first 0 0 ∷ get_or first 1 0 ∷ get_or first 2 0 ∷ get_or first 3 0 ∷ []
-four-first [] h = absurd (omega arith)
-four-first (a ∷ []) h = absurd (omega arith)
-four-first (a ∷ b ∷ []) h = absurd (omega arith)
-four-first (a ∷ b ∷ c ∷ []) h = absurd (omega arith)
-four-first (a ∷ b ∷ c ∷ d ∷ []) h = refl
-four-first (a ∷ b ∷ c ∷ d ∷ e ∷ more) h = absurd (omega arith)
-
--- The lent scratch after a call.
-pub scratch-kept : {tree again work output tree' again' work' output' : List ℕ} → LiftScratch tree again work output
-    → length tree' ≡ length tree
-    → length again' ≡ length again
-    → length work' ≡ length work
-    → length output' ≡ length output
-    → LiftScratch tree' again' work' output'
-scratch-kept s a b c d =
-    record {
-      first_tree = a ∙ s.first_tree;
-      second_tree = b ∙ s.second_tree;
-      work_words = c ∙ s.work_words;
-      output_words = d ∙ s.output_words;
-    }
 
 -- No more than three bytes are taken.
 pub few-taken : (n : ℕ) (l : List ℕ) → n ≤ 3 → length (take n l) ≤ 3

@@ -4,6 +4,8 @@ use mathlib.Core.{Path.{◌≡◌, refl, sym, ◌∙◌}, List.{List, ◌∷◌}
 use native.Mathlib.Omega.{arith}
 use lib.ListN.{length, length-replicate}
 use borrow.Author.Tests.{eq-eqb, le-leb, lt-ltb}
+use Rattle.std.specs.Prelude.{Result}
+use Rattle.words.specs.declared.refusals.Refusal as code
 use Rattle.molang.specs.{FirstFailure.{must, first_of}, Words.{Refusal}, Parse.{most_tokens, length_rows}, Lift.{lift_of, same, lifted}}
 use Rattle.lift.specs.Lifting.{LiftCall, room_refusal, LiftTold}
 use Rattle.lift.proofs.{CallLaws.{told-within}, Within.{IsLiftWithin, by_lengths, by_output, list_stays, list_comes, list_told, list_behind}}
@@ -54,7 +56,7 @@ becomes c told output room size (list_told {records} e t) = rw t (record { numbe
 becomes c told output room size (list_behind {number} {place} e t) = rw t (record { number = number; place = place; is = e })
 
 -- The same by the call's promise.
-pub judged : {c : LiftCall} {r : Outcome} {tree' again' messages' work' output' : List ℕ} → HasLifted c r tree' again' messages' work' output'
+pub judged : {c : LiftCall} {r : Result Outcome code.Refusal} {tree' again' messages' work' output' : List ℕ} → HasLifted c r tree' again' messages' work' output'
     → Roomy c
     → length output' ≡ length c.output
     → (from to : ℕ)

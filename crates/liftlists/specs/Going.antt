@@ -1,12 +1,7 @@
 -- How the run goes through a file: what is given for the bytes that came, whatever bytes follow, and what is handed to `write`.
-use Rattle.std.specs.Prelude.{ℕ, ◌+◌, ◌≤◌, ◌≡◌, List, [], ◌++◌, length, take}
-use Rattle.streams.specs.Came.{FullBy}
+use Rattle.std.specs.Prelude.{Option, Some, None, ℕ, ◌≤◌, ◌≡◌, List, [], ◌++◌, take}
 use Rattle.listing.specs.Lists.{words_in}
-use Rattle.liftlists.specs.declared.feed.Room.{Room}
-use Rattle.liftlists.specs.declared.feed.Room.TheVariants.{At, Failed as Room-as-Failed}
-use Rattle.liftlists.specs.declared.feed.Fed.{Fed}
-use Rattle.liftlists.specs.declared.feed.Fed.TheVariants.{On, Failed as Fed-as-Failed}
-use Rattle.liftlists.specs.declared.Turn.{Turn}
+use Rattle.liftlists.specs.declared.step.Step.{Step}
 use Rattle.liftlists.specs.LiftedFile.{bytes_of, bytes_behind, lifted_words, lifted_file}
 use Rattle.liftlists.specs.Steps.{Fine, held_in}
 
@@ -41,21 +36,14 @@ pub record IsLastPiece (text : List ℕ) : Type 0 where
   pub is : lifted_file input ≡ before ++ text
 
 -- What `spill` leaves: the bytes that are laid, or none of them.
-abbrev pub Spilled : Room → List ℕ → ℕ → Type 0
-Spilled (At start) out at =
+abbrev pub Spilled : Option ℕ → List ℕ → ℕ → Type 0
+Spilled (Some start) out at =
     (start ≤ 65535) ×
     ((later : List ℕ → List ℕ) → FileGoes (λ bytes. take at out ++ later bytes) [] (λ bytes. take start out ++ later bytes))
-Spilled Room-as-Failed out at = Unit {0}
+Spilled None out at = Unit {0}
 
 -- Where a chunk leads.
-abbrev pub FedTo : ℕ → (List ℕ → List ℕ) → List ℕ → Fed → List ℕ → List ℕ → Type 0
-FedTo to here chunk (On stage at) list out = Fine stage list × (at ≤ 147463) × FileGoes here chunk (yet to (held_in stage list) out at)
-FedTo to here chunk Fed-as-Failed list out = Unit {0}
-
--- WHAT A CHUNK LEADS TO, which lies in front of the space: its whole words lead on, and at most three bytes are behind them.
-pub record ChunkTurned (to : ℕ) (here : List ℕ → List ℕ) (r : Turn) (space list out : List ℕ) : Type 0 where
-  pub fed_to : FedTo to here (take r.whole space) r.fed list out
-  pub whole : r.whole ≤ r.last
-  pub most : r.last ≤ r.whole + 3
-  pub room : r.last ≤ length space
-  pub full : FullBy r.end r.last (length space)
+abbrev pub FedTo : ℕ → (List ℕ → List ℕ) → List ℕ → Option Step → List ℕ → List ℕ → Type 0
+FedTo to here chunk (Some step) list out =
+    Fine step.stage list × (step.at ≤ 147463) × FileGoes here chunk (yet to (held_in step.stage list) out step.at)
+FedTo to here chunk None list out = Unit {0}

@@ -12,13 +12,6 @@ use Rattle.liftlists.specs.LiftedFile.{opens_list, bytes_of, lifted_words}
 
 -- ---- A list
 
--- The lengths of the lent scratch: two trees, the work and the output of 4,096 tokens.
-pub record LiftScratch (tree again work output : List ℕ) : Type 0 where
-  pub first_tree : length tree ≡ 86016
-  pub second_tree : length again ≡ 86016
-  pub work_words : length work ≡ 262208
-  pub output_words : length output ≡ 20480
-
 -- The fate that the lift tells.
 abbrev pub fate_told : LiftTold → Fate
 fate_told (stays_same nodes) = Same

@@ -3,11 +3,13 @@ ghost use Rattle.std.specs.Prelude.{◌≡◌, ◌^◌, ◌≤◌, ◌<◌, leng
 ghost use Rattle.molang.specs.Lift.{lift_of};
 ghost use Rattle.lift.specs.Answers.{lift_told};
 ghost use Rattle.liftlists.specs.LiftedFile.{engine_of};
-ghost use Rattle.liftlists.specs.Steps.{LiftScratch, fate_told, HasFate};
+ghost use Rattle.liftlists.specs.Steps.{fate_told, HasFate};
 
+use crate::lent::Scratch;
 use derived::version_of;
 use lift::{Outcome, lift};
 use words::fields;
+use words::refusals::Refusal;
 
 // The nesting limit of both engines.
 const LIMIT: u32 = 4096;
@@ -21,44 +23,39 @@ pub enum Fate {
 }
 
 // The fate that an outcome is.
-fn fate_of(outcome: Outcome) -> Fate
+fn fate_of(outcome: Result<Outcome, Refusal>) -> Fate
     ensures { result ≡ fate_told (lift_told outcome) }
 {
     match outcome {
-        Outcome::Same(_) => Fate::Same,
-        Outcome::Lifted(tokens) => Fate::Lifted(tokens),
-        Outcome::Messages(_) => Fate::Behind,
-        Outcome::Behind(_, _) => Fate::Behind,
+        Ok(Outcome::Same(_)) => Fate::Same,
+        Ok(Outcome::Lifted(tokens)) => Fate::Lifted(tokens),
+        Ok(Outcome::Messages(_)) => Fate::Behind,
+        Err(_) => Fate::Behind,
     }
 }
 
-// What becomes of the words of a list between two version words; what comes out stands in front of `output`. The lift clears all the work
-// that it is lent, so that it is lent what the tokens need. The buffers are of the lengths that `lift_file` gives them.
-pub(crate) fn judge(
-    list: &[u32],
-    from: u32,
-    to: u32,
-    tree: &mut [u32],
-    again: &mut [u32],
-    work: &mut [u32],
-    output: &mut [u32],
-) -> Fate
+// What becomes of the words of a list between two version words; what comes out stands in front of the output. The lift clears all the work
+// that it is lent, so that it is lent what the tokens need. The output's length is told to `close`: the check does not read it off a field's
+// type behind a call.
+pub(crate) fn judge(list: &[u32], from: u32, to: u32, scratch: &mut Scratch) -> Fate
     requires list_len_bound { (length list.now ≤ 20480) × (from < 2 ^ 16) × (to < 2 ^ 16) }
-    requires lift_scratch { LiftScratch tree.old again.old work.old output.old }
-    ensures { HasFate (lift_of (engine_of from) (engine_of to) list.now) result output.new }
+    ensures output_len { length scratch.new.output ≡ 20480 }
+    ensures fate { HasFate (lift_of (engine_of from) (engine_of to) list.now) result scratch.new.output }
 {
     if list.len() % fields::TOKEN_WORDS != 0 {
         return Fate::Behind;
     }
     let mut messages = [0u32; 16];
     let room = 64 * (list.len() / fields::TOKEN_WORDS) + 64;
+    // A part of a field is not lent in one step beside other fields, but that of a slice is.
+    let work: &mut [u32] = &mut scratch.work;
     let outcome = lift(
         list,
-        tree,
-        again,
+        &mut scratch.tree,
+        &mut scratch.again,
         &mut messages,
         &mut work[..room],
-        output,
+        &mut scratch.output,
         version_of(from),
         version_of(to),
         LIMIT,

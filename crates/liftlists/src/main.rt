@@ -7,163 +7,76 @@ mod close;
 mod feed;
 mod hand;
 mod judge;
+mod lent;
 mod put;
 mod step;
 
 ghost use Rattle.std.specs.Prelude.{◌≡◌, [], ◌^◌, ◌≤◌, ◌<◌, length};
-ghost use Rattle.liftlists.specs.Steps.{LiftScratch, Fine, held_in};
-ghost use Rattle.liftlists.specs.Going.{file_from, yet, PlaceReached, ChunkTurned};
+ghost use Rattle.liftlists.specs.Steps.{Fine, held_in};
+ghost use Rattle.liftlists.specs.Going.{file_from, yet, PlaceReached};
 
-use crate::feed::{Fed, feed};
+use crate::feed::feed;
 use crate::hand::{hand_last, unread, unwritten};
+use crate::lent::{ListBuffer, OutBuffer, Scratch};
 use crate::step::{Stage, close_last};
 use listing::bytes::word_of;
 use std::io::Read;
-use streams::{End, fill};
+use streams::{TURNS, fill};
 use text::put_bytes;
-
-// How often a chunk is read. A proved loop has to end, and nothing says that an input does: no run uses this up.
-const TURNS: usize = 1_099_511_627_776;
 
 // A version word is below this.
 const PAST_VERSIONS: u32 = 65_536;
 
-// The input has ended: the list that is kept, and the bytes behind the last whole word. `read_on` leaves at most three of these.
+// The input has ended: the list that is kept, and the bytes behind the last whole word. `carry` leaves at most three of these.
 fn finish<S: Print + Eprint>(
     rt: &S,
-    end: End,
     stage: Stage,
-    list: &[u32],
+    list: &ListBuffer,
     tail: &[u8],
     to: u32,
-    out: &mut [u8],
+    out: &mut OutBuffer,
     at: usize,
-    tree: &mut [u32],
-    again: &mut [u32],
-    work: &mut [u32],
-    output: &mut [u32],
+    scratch: &mut Scratch,
 )
-    requires list_len { (length list.now ≡ 20480) × (to < 2 ^ 16) × (at ≤ 147463) × (length out.old ≡ 262144) × (length tail.now ≤ 3) }
-    requires lift_scratch { LiftScratch tree.old again.old work.old output.old }
+    requires list_len { (to < 2 ^ 16) × (at ≤ 147463) × (length tail.now ≤ 3) }
     requires fine { Fine stage list.now × PlaceReached (yet to (held_in stage list.now) out.old at) }
 {
-    let End::Ended = end else {
-        unread(rt);
-        return;
-    };
-    let closed = close_last(stage, list, to, out, at, tree, again, work, output);
+    let closed = close_last(stage, list, to, out, at, scratch);
     let last = put_bytes(out, closed, tail);
     hand_last(rt, &out[..last]);
 }
 
-// What a chunk led to: where the file goes on, how many bytes are whole words, how many came, and why they were no more.
-#[derive(Clone, Copy)]
-struct Turn {
-    fed: Fed,
-    whole: usize,
-    last: usize,
-    end: End,
-}
-
-// One chunk more, which lies in front of the space. `lift_file` gives the buffers their lengths, here and below.
-fn read_on<R: Read, P: Print>(
-    input: &mut R,
-    rt: &P,
-    stage: Stage,
-    list: &mut [u32],
-    space: &mut [u8],
-    to: u32,
-    out: &mut [u8],
-    at: usize,
-    tree: &mut [u32],
-    again: &mut [u32],
-    work: &mut [u32],
-    output: &mut [u32],
-) -> Turn
-    requires list_len { (length list.old ≡ 20480) × (length space.old ≡ 65536) × (to < 2 ^ 16) × (at ≤ 147463)
-        × (length out.old ≡ 262144) }
-    requires lift_scratch { LiftScratch tree.old again.old work.old output.old }
-    requires fine { Fine stage list.old × PlaceReached (yet to (held_in stage list.old) out.old at) }
-    ensures { ChunkTurned to (yet to (held_in stage list.old) out.old at) result
-        space.new list.new out.new }
-{
-    let came = fill(input, space);
-    let last = came.bytes;
-    let whole = last / 4 * 4;
-    let fed = feed(
-        rt,
-        stage,
-        list,
-        &space[..whole],
-        to,
-        out,
-        at,
-        tree,
-        again,
-        work,
-        output,
-    );
-    let end = came.end;
-    Turn {
-        fed,
-        whole,
-        last,
-        end,
-    }
-}
-
-// Reads the file chunk by chunk and hands over what it gives.
+// Reads the file chunk by chunk and hands over what it gives. `lift_file` lends the space.
 fn carry<R: Read, S: Print + Eprint>(
     input: &mut R,
     rt: &S,
     to: u32,
-    list: &mut [u32],
+    list: &mut ListBuffer,
     space: &mut [u8],
-    out: &mut [u8],
-    tree: &mut [u32],
-    again: &mut [u32],
-    work: &mut [u32],
-    output: &mut [u32],
+    out: &mut OutBuffer,
+    scratch: &mut Scratch,
 )
-    requires list_len { (length list.old ≡ 20480) × (length space.old ≡ 65536) × (length out.old ≡ 262144) × (to < 2 ^ 16) }
-    requires lift_scratch { LiftScratch tree.old again.old work.old output.old }
+    requires list_len { (length space.old ≡ 65536) × (to < 2 ^ 16) }
     requires place_reached { PlaceReached (file_from to []) }
 {
     let mut stage = Stage::Passing;
     let mut at = 0usize;
-    let mut turns = TURNS;
-    while 0 < turns {
-        turns -= 1;
-        let next = read_on(
-            input, rt, stage, list, space, to, out, at, tree, again, work, output,
-        );
-        let fed = next.fed;
-        let Fed::On(then, laid) = fed else {
+    for _ in 0..TURNS {
+        let Ok(last) = fill(input, space) else {
+            unread(rt);
+            return;
+        };
+        let whole = last / 4 * 4;
+        let Some(step) = feed(rt, stage, list, &space[..whole], to, out, at, scratch) else {
             unwritten(rt);
             return;
         };
-        let end = next.end;
-        let End::Full = end else {
-            let whole = next.whole;
-            let last = next.last;
-            finish(
-                rt,
-                end,
-                then,
-                list,
-                &space[whole..last],
-                to,
-                out,
-                laid,
-                tree,
-                again,
-                work,
-                output,
-            );
+        stage = step.stage;
+        at = step.at;
+        if last < space.len() {
+            finish(rt, stage, list, &space[whole..last], to, out, at, scratch);
             return;
-        };
-        stage = then;
-        at = laid;
+        }
     }
     unread(rt);
 }
@@ -175,22 +88,13 @@ fn lift_file<R: Read, S: Print + Eprint>(input: &mut R, rt: &S, to: u32)
     let mut list = [0u32; 20_480];
     let mut space = io::large_buffer();
     let mut out = [0u8; 262_144];
-    let mut tree = [0u32; 86_016];
-    let mut again = [0u32; 86_016];
-    let mut work = [0u32; 262_208];
-    let mut output = [0u32; 20_480];
-    carry(
-        input,
-        rt,
-        to,
-        &mut list,
-        &mut space,
-        &mut out,
-        &mut tree,
-        &mut again,
-        &mut work,
-        &mut output,
-    );
+    let mut scratch = Scratch {
+        tree: [0; 86_016],
+        again: [0; 86_016],
+        work: [0; 262_208],
+        output: [0; 20_480],
+    };
+    carry(input, rt, to, &mut list, &mut space, &mut out, &mut scratch);
 }
 
 // The first bytes of the input, which are a version word or not; `main` reads no more than four.
@@ -212,11 +116,8 @@ fn begin<R: Read, S: Print + Eprint>(input: &mut R, rt: &S, first: &[u8])
 fn main(rt: HostRuntime) {
     let mut input = rt.stdin();
     let mut first = [0u8; 4];
-    let came = fill(&mut input, &mut first);
-    let n = came.bytes;
-    let end = came.end;
-    match end {
-        End::Full | End::Ended => begin(&mut input, &rt, &first[..n]),
-        End::Failed => unread(&rt),
+    match fill(&mut input, &mut first) {
+        Ok(n) => begin(&mut input, &rt, &first[..n]),
+        Err(_) => unread(&rt),
     }
 }

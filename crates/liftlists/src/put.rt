@@ -11,13 +11,7 @@ pub(crate) fn put_word(out: &mut [u8], at: usize, w: u32) -> usize
     requires { at + 4 ≤ length out.old }
     ensures { Wrote out.old at (bytes_of (w ∷ [])) result out.new }
 {
-    let bytes = [
-        (w % 256) as u8,
-        (w / 256 % 256) as u8,
-        (w / 65_536 % 256) as u8,
-        (w / 16_777_216 % 256) as u8,
-    ];
-    put_bytes(out, at, &bytes)
+    put_bytes(out, at, &w.to_le_bytes())
 }
 
 // Words one behind the other.
@@ -26,10 +20,8 @@ fn put_words(out: &mut [u8], at: usize, words: &[u32]) -> usize
     ensures { Wrote out.old at (bytes_of words.now) result out.new }
 {
     let mut end = at;
-    let mut i = 0usize;
-    while i < words.len() {
-        end = put_word(out, end, words[i]);
-        i += 1;
+    for &w in words {
+        end = put_word(out, end, w);
     }
     end
 }

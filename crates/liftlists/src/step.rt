@@ -3,9 +3,10 @@ ghost use Rattle.std.specs.Prelude.{◌≡◌, List, [], ℕ, ◌+◌, ◌^◌, 
 ghost use Rattle.molang.specs.Words.{kind_of};
 ghost use Rattle.text.specs.Text.{Wrote};
 ghost use Rattle.liftlists.specs.LiftedFile.{bytes_of, lifted_words};
-ghost use Rattle.liftlists.specs.Steps.{LiftScratch, ListHeld, Fine, held_in, Took};
+ghost use Rattle.liftlists.specs.Steps.{ListHeld, Fine, held_in, Took};
 
 use crate::close::close;
+use crate::lent::{ListBuffer, OutBuffer, Scratch};
 use crate::put::{put_list, put_word};
 use words::fields;
 
@@ -31,8 +32,8 @@ pub struct Step {
 }
 
 // A word while no list is kept: a version opens one, and any other goes through.
-fn pass(w: u32, out: &mut [u8], at: usize) -> Step
-    requires { at + 4 ≤ length out.old }
+fn pass(w: u32, out: &mut OutBuffer, at: usize) -> Step
+    requires { at + 4 ≤ 262144 }
     ensures { (to : ℕ) (list : List ℕ) → Took to [] w 4 out.old at result list out.new }
 {
     if w < PAST_VERSIONS {
@@ -49,8 +50,15 @@ fn pass(w: u32, out: &mut [u8], at: usize) -> Step
 }
 
 // A word of the list that is kept. One word too many, and the list goes through.
-fn keep(opener: u32, n: usize, list: &mut [u32], w: u32, out: &mut [u8], at: usize) -> Step
-    requires list_len { (length list.old ≡ 20480) × (at + 81928 ≤ length out.old) × (kind_of w ≡ 0 → ⊥) }
+fn keep(
+    opener: u32,
+    n: usize,
+    list: &mut ListBuffer,
+    w: u32,
+    out: &mut OutBuffer,
+    at: usize,
+) -> Step
+    requires list_len { (at + 81928 ≤ 262144) × (kind_of w ≡ 0 → ⊥) }
     requires list_held { ListHeld opener n list.old }
     ensures { (to : ℕ) → Took to (held_in (Stage.InList opener n) list.old) w 81928 out.old at result
         list.new out.new }
@@ -70,21 +78,17 @@ fn keep(opener: u32, n: usize, list: &mut [u32], w: u32, out: &mut [u8], at: usi
     }
 }
 
-// A word. The buffers are of the lengths that `lift_file` gives them, here and below.
+// A word.
 pub(crate) fn take_word(
     stage: Stage,
-    list: &mut [u32],
+    list: &mut ListBuffer,
     w: u32,
     to: u32,
-    out: &mut [u8],
+    out: &mut OutBuffer,
     at: usize,
-    tree: &mut [u32],
-    again: &mut [u32],
-    work: &mut [u32],
-    output: &mut [u32],
+    scratch: &mut Scratch,
 ) -> Step
-    requires list_len { (length list.old ≡ 20480) × (to < 2 ^ 16) × (at + 81928 ≤ length out.old) }
-    requires lift_scratch { LiftScratch tree.old again.old work.old output.old }
+    requires list_len { (to < 2 ^ 16) × (at + 81928 ≤ 262144) }
     requires fine { Fine stage list.old }
     ensures { Took to (held_in stage list.old) w 81928 out.old at result list.new out.new }
 {
@@ -94,7 +98,7 @@ pub(crate) fn take_word(
             if fields::kind(w) != 0 {
                 return keep(opener, n, list, w, out, at);
             }
-            let end = close(&list[..n], opener, to, out, at, tree, again, work, output);
+            let end = close(&list[..n], opener, to, out, at, scratch);
             pass(w, out, end)
         }
     }
@@ -103,25 +107,19 @@ pub(crate) fn take_word(
 // The end of the input ends the list that is kept.
 pub(crate) fn close_last(
     stage: Stage,
-    list: &[u32],
+    list: &ListBuffer,
     to: u32,
-    out: &mut [u8],
+    out: &mut OutBuffer,
     at: usize,
-    tree: &mut [u32],
-    again: &mut [u32],
-    work: &mut [u32],
-    output: &mut [u32],
+    scratch: &mut Scratch,
 ) -> usize
-    requires list_len { (length list.now ≡ 20480) × (to < 2 ^ 16) × (at + 81924 ≤ length out.old) }
-    requires lift_scratch { LiftScratch tree.old again.old work.old output.old }
+    requires list_len { (to < 2 ^ 16) × (at + 81924 ≤ 262144) }
     requires fine { Fine stage list.now }
     ensures upper_bound { result ≤ at + 81924 }
     ensures wrote { Wrote out.old at (bytes_of (lifted_words to (held_in stage list.now))) result out.new }
 {
     match stage {
         Stage::Passing => at,
-        Stage::InList(opener, n) => {
-            close(&list[..n], opener, to, out, at, tree, again, work, output)
-        }
+        Stage::InList(opener, n) => { close(&list[..n], opener, to, out, at, scratch) }
     }
 }

@@ -10,30 +10,14 @@ ghost use Rattle.std.specs.Prelude.{◌≤◌, length};
 use molang::lines::TREE;
 use table::next_mark;
 use table::said::table;
-use verdicts::{Verdict, run_line};
-
-// Writes a text; whether it was taken, here and below.
-fn say<P: Print>(rt: &P, text: &[u8]) -> bool {
-    rt.write_all(text).is_ok()
-}
+use verdicts::{Difference, run_line};
 
 // Writes whether a line is answered as it says.
-fn say_verdict<P: Print>(rt: &P, verdict: Verdict) -> bool {
+fn say_verdict<P: Print>(rt: &P, verdict: Result<(), Difference>) -> std::io::Result<()> {
     match verdict {
-        Verdict::Same => say(rt, b": ok\n"),
-        Verdict::Answer => say(rt, b": another answer\n"),
-        Verdict::Words => say(rt, b": other words\n"),
-    }
-}
-
-// How much a line counts to those that are not answered as they say.
-fn differs(verdict: Verdict) -> u64
-    ensures { result ≤ 1 }
-{
-    match verdict {
-        Verdict::Same => 0,
-        Verdict::Answer => 1,
-        Verdict::Words => 1,
+        Ok(()) => rt.write_all(b": ok\n"),
+        Err(Difference::Answer) => rt.write_all(b": another answer\n"),
+        Err(Difference::Words) => rt.write_all(b": other words\n"),
     }
 }
 
@@ -42,14 +26,10 @@ fn line_end(text: &[u8], from: usize) -> usize
     requires { from ≤ length text.now }
     ensures { (from ≤ result) × (result ≤ length text.now) }
 {
-    let mut end = from;
-    while end < text.len() {
-        if text[end] == b'\n' {
-            return end;
-        }
-        end += 1;
+    match text[from..].iter().position(|byte| *byte == b'\n') {
+        Some(length) => from + length,
+        None => text.len(),
     }
-    end
 }
 
 // Where the next line of text starts, behind the byte that ends one.
@@ -63,28 +43,20 @@ fn behind(text: &[u8], end: usize) -> usize
 }
 
 // Writes a line: its text, and whether it is answered as it says.
-fn say_line<P: Print>(rt: &P, text: &[u8], verdict: Verdict) -> bool {
-    if !say(rt, text) {
-        return false;
-    }
+fn say_line<P: Print>(rt: &P, text: &[u8], verdict: Result<(), Difference>) -> std::io::Result<()> {
+    rt.write_all(text)?;
     say_verdict(rt, verdict)
 }
 
-fn say_totals<P: Print>(rt: &P, count: u64, others: u64) -> bool {
-    if rt.print(count).is_err() {
-        return false;
-    }
-    if !say(rt, b" lines, ") {
-        return false;
-    }
-    if rt.print(others).is_err() {
-        return false;
-    }
-    say(rt, b" differ\n")
+fn say_totals<P: Print>(rt: &P, count: u64, others: u64) -> std::io::Result<()> {
+    rt.print(count)?;
+    rt.write_all(b" lines, ")?;
+    rt.print(others)?;
+    rt.write_all(b" differ\n")
 }
 
 // Runs every line of the table; each has a line of text.
-fn run<P: Print>(rt: &P, numbers: &[u32], text: &[u8]) -> bool {
+fn run<P: Print>(rt: &P, numbers: &[u32], text: &[u8]) -> std::io::Result<()> {
     let mut start = 0usize;
     let mut from = 0usize;
     let mut count = 0u64;
@@ -93,11 +65,9 @@ fn run<P: Print>(rt: &P, numbers: &[u32], text: &[u8]) -> bool {
         let end = next_mark(numbers, start + 1, TREE);
         let verdict = run_line(&numbers[start..end]);
         let stop = line_end(text, from);
-        if !say_line(rt, &text[from..stop], verdict) {
-            return false;
-        }
+        say_line(rt, &text[from..stop], verdict)?;
         from = behind(text, stop);
-        others += differs(verdict);
+        others += u64::from(verdict.is_err());
         count += 1;
         start = end;
     }
@@ -108,7 +78,7 @@ fn main(rt: HostRuntime) {
     let table = table();
     let numbers = table.numbers;
     let text = table.text;
-    if !run(&rt, &numbers, &text) {
+    if run(&rt, &numbers, &text).is_err() {
         let _ = rt.eprintln("lines: a write failed, and the text is not whole");
     }
 }

@@ -6,7 +6,7 @@ ghost use Rattle.listing.specs.Lists.{words_in};
 pub fn word_of(a: u8, b: u8, c: u8, d: u8) -> u32
     ensures { result ≡ a + 2 ^ 8 * b + 2 ^ 16 * c + 2 ^ 24 * d }
 {
-    a as u32 + 256 * (b as u32) + 65_536 * (c as u32) + 16_777_216 * (d as u32)
+    u32::from_le_bytes([a, b, c, d])
 }
 
 // Fills words with those of the bytes. `treelist` and `everylist` keep four bytes to each word of theirs.
@@ -14,10 +14,8 @@ pub fn words_of(bytes: &[u8], words: &mut [u32])
     requires { length bytes.now ≡ 4 * length words.old }
     ensures { words.new ≡ words_in bytes.now }
 {
-    let mut i = 0usize;
-    while i < words.len() {
+    for i in 0..words.len() {
         let at = 4 * i;
         words[i] = word_of(bytes[at], bytes[at + 1], bytes[at + 2], bytes[at + 3]);
-        i += 1;
     }
 }

@@ -9,6 +9,7 @@ use parse::Answer;
 use text::{put_bytes, put_number};
 use words::fields;
 use words::fields::wide;
+use words::refusals::Refusal;
 
 // A line of numbers. `put_answer` has room for the longest text of each line, here and below.
 fn put_row(out: &mut [u8], at: usize, numbers: &[u32]) -> usize
@@ -17,10 +18,8 @@ fn put_row(out: &mut [u8], at: usize, numbers: &[u32]) -> usize
 {
     let last = numbers.len() - 1;
     let mut end = at;
-    let mut i = 0usize;
-    while i < last {
-        end = put_number(out, end, wide(numbers[i]), b' ');
-        i += 1;
+    for number in &numbers[..last] {
+        end = put_number(out, end, wide(*number), b' ');
     }
     put_number(out, end, wide(numbers[last]), b'\n')
 }
@@ -44,10 +43,8 @@ fn put_nodes(out: &mut [u8], at: usize, tree: &[u32], n: usize) -> usize
     ensures { Wrote out.old at (node_rows n tree.now) result out.new }
 {
     let mut end = at;
-    let mut i = 0usize;
-    while i < n {
+    for i in 0..n {
         end = put_node(out, end, tree, fields::NODE_WORDS * i);
-        i += 1;
     }
     end
 }
@@ -58,12 +55,9 @@ fn put_records(out: &mut [u8], at: usize, messages: &[u32], n: usize) -> usize
     ensures { Wrote out.old at (record_rows n messages.now) result out.new }
 {
     let mut end = at;
-    let mut i = 0usize;
-    while i < n {
+    for i in 0..n {
         let from = fields::RECORD_WORDS * i;
-        let to = from + fields::RECORD_WORDS;
-        end = put_row(out, end, &messages[from..to]);
-        i += 1;
+        end = put_row(out, end, &messages[from..from + fields::RECORD_WORDS]);
     }
     end
 }
@@ -72,7 +66,7 @@ fn put_records(out: &mut [u8], at: usize, messages: &[u32], n: usize) -> usize
 pub fn put_answer(
     out: &mut [u8],
     at: usize,
-    answered: Answer,
+    answered: Result<Answer, Refusal>,
     tree: &[u32],
     messages: &[u32],
 ) -> usize
@@ -82,20 +76,20 @@ pub fn put_answer(
         (answer_text (told_of answered) tree.now messages.now) result out.new }
 {
     match answered {
-        Answer::Tree(n) => {
+        Ok(Answer::Tree(n)) => {
             let named = put_bytes(out, at, b"tree ");
             let counted = put_number(out, named, n, b'\n');
             put_nodes(out, counted, tree, n)
         }
-        Answer::Messages(n) => {
+        Ok(Answer::Messages(n)) => {
             let named = put_bytes(out, at, b"messages ");
             let counted = put_number(out, named, n, b'\n');
             put_records(out, counted, messages, n)
         }
-        Answer::Refused(number, place) => {
+        Err(refusal) => {
             let named = put_bytes(out, at, b"refused ");
-            let numbered = put_number(out, named, wide(number), b' ');
-            put_number(out, numbered, place, b'\n')
+            let numbered = put_number(out, named, wide(u32::from(refusal.reason)), b' ');
+            put_number(out, numbered, refusal.place, b'\n')
         }
     }
 }

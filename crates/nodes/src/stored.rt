@@ -13,7 +13,8 @@ pub const VALUE_FIELD: usize = 3;
 
 pub const CLOSE_FIELD: usize = 4;
 
-// A token's words in the store.
+// A token's words in the store. Its `at`, `bare` and `lay` are those of `TokenWords` but for the last two words, of other names and meanings: one
+// generic form would name all five by their places, and be no plainer.
 #[derive(Clone, Copy)]
 pub struct StoredWords {
     pub operator: u32,
@@ -23,11 +24,11 @@ pub struct StoredWords {
     pub close: u32,
 }
 
-impl StoredWords {
-    // The words of a token of a list: it closes at its end.
-    pub fn of(token: TokenWords) -> Self
-        ensures { result ≡ stored_of token }
-    {
+// The words of a token of a list: it closes at its end.
+impl From<TokenWords> for StoredWords {
+    ghost from_gives = { λ token stored. stored ≡ stored_of token };
+
+    fn from(token: TokenWords) -> Self {
         Self {
             operator: token.operator,
             start: token.start,
@@ -36,7 +37,24 @@ impl StoredWords {
             close: fields::close_word(token.end),
         }
     }
+}
 
+// The five words of a list's token, the value in two halves again.
+impl From<StoredWords> for TokenWords {
+    ghost from_gives = { λ stored token. token ≡ token_of_stored stored };
+
+    fn from(stored: StoredWords) -> Self {
+        Self {
+            operator: stored.operator,
+            start: stored.start,
+            end: stored.end,
+            upper: fields::upper_word(stored.value),
+            lower: fields::lower_word(stored.value),
+        }
+    }
+}
+
+impl StoredWords {
     // The words that stand in the buffer from `at` on.
     pub fn at(words: &[u32], at: usize) -> Self
         requires { at + 5 ≤ length words.now }
@@ -74,18 +92,5 @@ impl StoredWords {
         words[at + fields::END_FIELD] = self.end;
         words[at + VALUE_FIELD] = self.value;
         words[at + CLOSE_FIELD] = self.close;
-    }
-
-    // The five words of a list's token, the value in two halves again.
-    pub fn token(self) -> TokenWords
-        ensures { result ≡ token_of_stored self }
-    {
-        TokenWords {
-            operator: self.operator,
-            start: self.start,
-            end: self.end,
-            upper: fields::upper_word(self.value),
-            lower: fields::lower_word(self.value),
-        }
     }
 }

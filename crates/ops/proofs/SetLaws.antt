@@ -1,10 +1,11 @@
 -- Sets of operators in two halves of 64 bits: the bits of each half in the whole, and the math calls. Assumes nothing.
-use mathlib.Core.{Path.{◌≡◌, refl, sym, ap, ◌∙◌}, List.{[], ◌∷◌}, Bool.{Bool, true, false, not, ◌&&◌, ◌||◌, and-false, or-false}}
+use mathlib.Core.{Path.{◌≡◌, refl, sym, ap, ◌∙◌}, List.{List, [], ◌∷◌}, Bool.{Bool, true, false, not, ◌&&◌, ◌||◌, and-false, or-false}}
 use Prim.Native.Nat.{ℕ, ◌+◌, ◌-◌, ◌*◌, ◌/◌, ◌%◌, ◌^◌, ◌<◌, ◌≤◌}
 use native.Mathlib.{Nat.{div-eq_of_lt, lt_of_lt_of_le, lt_of_le_of_lt}, Omega.{arith}}
 use lib.{Arith.{digits_lt}, Dec.{eqb, ltb}, Pow.{pow_mono, shr-shr, high, low, field, mod-mod-pow}, Bits.{bit_and, and_le_l, and_block}}
 use borrow.Author.Tests.{lt-ltb, le-ltb, ltb-true, ltb-false, eqb-true, eqb-false, ne_eqb}
 use Rattle.molang.specs.{Operator.{any, is_math_call, between}, Order.{some_below}, Parse.{in_halves}}
+use Rattle.std.specs.List.{list_any}
 use Rattle.ops.specs.Classes.{bit_at}
 use Rattle.ops.proofs.{OperatorLaws.{agree_at}, BitLaws.{nonzero, some_same, bit-and}}
 
@@ -83,18 +84,11 @@ math-used l h =
 
 -- ---- Tests one after another
 
--- What `||` and `&&` answer where the first side decides, and where it does not.
-pub or-first : (x a b : Bool) → x ≡ true → x ≡ a → x ≡ (a || b)
-or-first x a b t e = rw (sym e ∙ t) t
-
-pub or-second : (x a y b : Bool) → x ≡ false → x ≡ a → y ≡ b → y ≡ (a || b)
-or-second x a y b f e d = rw (sym e ∙ f) d
-
-pub and_first : (x a b : Bool) → x ≡ false → x ≡ a → x ≡ (a && b)
-and_first x a b f e = rw (sym e ∙ f) f
-
-pub and_second : (x a y b : Bool) → x ≡ true → x ≡ a → y ≡ b → y ≡ (a && b)
-and_second x a y b t e d = rw (sym e ∙ t) d
+-- The library's `any` over a list is the definition's.
+pub any-listed : (u : ℕ → Bool) (os : List ℕ) → list_any u os ≡ any u os
+unfolding any
+any-listed u [] = refl
+any-listed u (o ∷ os) = rw (any-listed u os) refl
 
 pub one-used : (u : ℕ → Bool) (a : ℕ) → u a ≡ any u (a ∷ [])
 one-used u a = unfold any in sym (or-false (u a))

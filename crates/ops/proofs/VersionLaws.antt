@@ -1,9 +1,10 @@
 -- Versions, which are signed: what the code's comparisons with a literal say of the definition's `effective` and `is_from`.
 -- Assumes nothing.
-use mathlib.Core.{Path.{◌≡◌, refl, sym, ap}, Bool.{true, false, true≢false}}
-use Prim.Native.Nat.{ℕ}
-use native.Mathlib.{Nat.{not-suc-le-zero}, Omega.{arith}}
-use lib.{IntN.{ℤ, pos, negsuc}, Signed.{lt_z, le_z}}
+use mathlib.Core.{Path.{◌≡◌, refl, ap}, Bool.{Bool, true, false, cond}}
+use Prim.Native.Nat.{ℕ, min}
+use native.Mathlib.Omega.{arith}
+use lib.{IntN.{ℤ, pos, negsuc}, Signed.{le_z}, Dec.{ltb}}
+use Rattle.std.specs.Int.{int_max, int_min}
 use borrow.Author.Tests.{ltb-true, ltb-false}
 use Rattle.molang.specs.Order.{effective, is_from}
 
@@ -12,17 +13,15 @@ unfolding is_from
 from n (pos m) = refl
 from n (negsuc m) = refl
 
-pub invalid : (v : ℤ) → lt_z v (pos 0) ≡ true → negsuc 0 ≡ effective v
+pub clamped : (v : ℤ) → int_max (negsuc 0) (int_min v (pos 13)) ≡ effective v
 unfolding effective
-invalid (pos n) e = absurd (not-suc-le-zero (ltb-true n 0 e))
-invalid (negsuc n) e = refl
-
-pub latest : (v : ℤ) → lt_z (pos 13) v ≡ true → pos 13 ≡ effective v
-unfolding effective
-latest (pos n) e = ap pos (omega (arith, ltb-true 13 n e))
-latest (negsuc n) e = absurd (true≢false (sym e))
-
-pub kept : (v : ℤ) → lt_z v (pos 0) ≡ false → lt_z (pos 13) v ≡ false → v ≡ effective v
-unfolding effective
-kept (pos n) e e' = ap pos (omega (arith, ltb-false 13 n e'))
-kept (negsuc n) e e' = absurd (true≢false e)
+clamped (pos n) = go (ltb 13 n) refl
+  where
+    go : (t : Bool) → ltb 13 n ≡ t → int_max (negsuc 0) (cond t (pos 13) (pos n)) ≡ pos (min n 13)
+    go true e = ap pos (omega (arith, ltb-true 13 n e))
+    go false e = ap pos (omega (arith, ltb-false 13 n e))
+clamped (negsuc n) = go (ltb 0 n) refl
+  where
+    go : (t : Bool) → ltb 0 n ≡ t → cond t (negsuc 0) (negsuc n) ≡ negsuc 0
+    go true e = refl
+    go false e = ap negsuc (omega (arith, ltb-false 0 n e))

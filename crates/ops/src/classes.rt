@@ -8,7 +8,8 @@ use crate::op;
 
 // A set of token classes: each constant from CALL to ONLY_CONDITIONAL_ELSE is one class, each after it several. NONE and ALL are the
 // Rust's, which notes ALL where no pass has looked yet. Here each leaf notes its own classes from the start, so no pass uses ALL;
-// `class_constants` holds it, as every other constant, to what it stands for.
+// `class_constants` holds it, as every other constant, to what it stands for. The kit's `bitflags` would be no plainer: of its methods these
+// two are used, and the contracts above speak of the number.
 #[derive(Clone, Copy)]
 pub struct TokenClasses(pub u32);
 
@@ -100,7 +101,8 @@ impl TokenClasses {
 }
 
 // The classes of each operator number, which a leaf of it notes: those that `class` of driver.rs gives it, one for the tokens of a pass,
-// two for `-`, none for what no pass after the sections looks for; and those of the three beside the Rust's.
+// two for `-`, none for what no pass after the sections looks for; and those of the three beside the Rust's. It is written out, and not
+// computed from ranges: the class of an operator is to be read at its line.
 pub const CLASSES: [u32; 111] = [
     TokenClasses::NONE.0, // LEFT_BRACE
     TokenClasses::NONE.0, // RIGHT_BRACE
@@ -271,8 +273,8 @@ pub fn class_table() -> [u32; 111]
 pub fn class(table: &[u32; 111], op: u32) -> TokenClasses
     ensures { result.0 ≡ entry_of table.now op }
 {
-    if op::COUNT <= op {
-        return TokenClasses::NONE;
+    match table.get(op as usize) {
+        Some(classes) => TokenClasses(*classes),
+        None => TokenClasses::NONE,
     }
-    TokenClasses(table[op as usize])
 }

@@ -19,23 +19,21 @@ ghost use Rattle.ops.specs.Operators.{is_opener, raise_of, meant};
 pub fn is_opener(op: u32) -> bool
     ensures { result ≡ is_opener op }
 {
-    match op {
-        op::LEFT_BRACE | op::LEFT_BRACKET | op::LEFT_PARENTHESIS => true,
-        _ => false,
-    }
+    matches!(op, op::LEFT_BRACE | op::LEFT_BRACKET | op::LEFT_PARENTHESIS)
 }
 
 // Whether op closes a section.
 pub fn is_closer(op: u32) -> bool
     ensures { result ≡ is_closer op }
 {
-    match op {
-        op::RIGHT_BRACE | op::RIGHT_BRACKET | op::RIGHT_PARENTHESIS => true,
-        _ => false,
-    }
+    matches!(
+        op,
+        op::RIGHT_BRACE | op::RIGHT_BRACKET | op::RIGHT_PARENTHESIS
+    )
 }
 
-// The closer of an opener (`closing_of` of sections.rs). Of any other operator 0, as in the definition.
+// The closer of an opener (`closing_of` of sections.rs). Of any other operator 0, and no Option: so the definition's `Message.closer` has it
+// in a message's record.
 pub fn closer_of(op: u32) -> u32
     ensures { result ≡ get_or (closing_of op) 0 }
 {
@@ -63,49 +61,45 @@ pub fn open_after(depth: usize, op: u32) -> usize
     requires { depth + 2 < 2 ^ 64 }
     ensures { result ≡ open_after depth op }
 {
-    let raised = depth + raise_of(op);
-    if raised == 0 {
-        return 0;
-    }
-    raised - 1
+    (depth + raise_of(op)).saturating_sub(1)
 }
 
 // Whether a member accessor takes what stands before it as its child.
 pub fn takes_member(op: u32) -> bool
     ensures { result ≡ has_members op }
 {
-    match op {
+    matches!(
+        op,
         op::QUERY_FUNCTION
-        | op::CONTEXT_VARIABLE
-        | op::ENTITY_VARIABLE
-        | op::TEMP_VARIABLE
-        | op::MEMBER_ACCESSOR => true,
-        _ => false,
-    }
+            | op::CONTEXT_VARIABLE
+            | op::ENTITY_VARIABLE
+            | op::TEMP_VARIABLE
+            | op::MEMBER_ACCESSOR
+    )
 }
 
 // Whether op is a math call: 8, 10-19, 21-30, 32-39 and 78-110 (`is_math_call` of mod.rs, by document 01's list).
 pub fn is_math_call(op: u32) -> bool
     ensures { result ≡ is_math_call op }
 {
-    match op {
-        op::ABS => true,
-        op::ACOS..=op::DIE_ROLL_INT => true,
-        op::EXP..=op::MOD => true,
-        op::POW..=op::TRUNC => true,
-        op::INVERSE_LERP..=op::HOST_MATH_VOLATILE => true,
-        _ => false,
-    }
+    matches!(
+        op,
+        op::ABS
+            | op::ACOS..=op::DIE_ROLL_INT
+            | op::EXP..=op::MOD
+            | op::POW..=op::TRUNC
+            | op::INVERSE_LERP..=op::HOST_MATH_VOLATILE
+    )
 }
 
 // Whether the statement pass, in a list with semicolons, goes into a node of op (`enters` of statements.rs).
 pub fn holds_statements(op: u32) -> bool
     ensures { result ≡ is_entered op }
 {
-    match op {
-        op::LEFT_BRACE | op::LEFT_PARENTHESIS | op::LOOP | op::FOR_EACH => true,
-        _ => false,
-    }
+    matches!(
+        op,
+        op::LEFT_BRACE | op::LEFT_PARENTHESIS | op::LOOP | op::FOR_EACH
+    )
 }
 
 // What the token before a `-` makes of it.

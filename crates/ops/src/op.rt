@@ -1,5 +1,7 @@
 // The operators of op.rs by name: an operator is its number there, the same in token words, in sets and in the class table.
 // Nothing else in the code writes an operator as a bare number, but for molang's table of lines, which leans on nothing.
+// They stay numbers, and no enum: a host's operators have numbers of their own (256 to 1023), each pass reads an operator from a lent word
+// at each step, where an enum would be made anew by 111 cases, and math calls, brackets, sets and the class table go by ranges of numbers.
 
 pub const LEFT_BRACE: u32 = 0;
 

@@ -1,6 +1,6 @@
-// Sets of operators in two halves of 64 bits, operator 0 being the lowest bit of the low half (set.rs has one of 128).
-// Leans on nothing.
-ghost use Rattle.std.specs.Prelude.{◌≡◌, ◌&&◌, [], ◌∷◌, ◌+◌, ◌*◌, ◌^◌, ltb};
+// Sets of operators in two halves of 64 bits, operator 0 being the lowest bit of the low half (set.rs has one of 128): the C interface
+// takes a used set as these two words. Leans on nothing.
+ghost use Rattle.std.specs.Prelude.{◌≡◌, ◌&&◌, ◌+◌, ◌*◌, ◌^◌, ltb};
 ghost use Rattle.molang.specs.Operator.{any};
 ghost use Rattle.molang.specs.Order.{some_below};
 ghost use Rattle.molang.specs.Parse.{in_halves};
@@ -12,6 +12,8 @@ pub struct OpSet {
 }
 
 impl OpSet {
+    pub const NONE: Self = Self { low: 0, high: 0 };
+
     // The math calls (`is_math_call`). That it has those and no others is part of the computed rule of the tables of `order`.
     pub const MATH_CALLS: Self = Self {
         low: 0xff_7fef_fd00,
@@ -38,18 +40,11 @@ impl OpSet {
         false
     }
 
-    // Whether one of the two operators is in the set.
-    pub fn has_either(self, a: u32, b: u32) -> bool
-        ensures { result ≡ any (in_halves self.low self.high) (a ∷ b ∷ []) }
+    // Whether one of the operators is in the set.
+    pub fn has_any(self, ops: &[u32]) -> bool
+        ensures { result ≡ any (in_halves self.low self.high) ops.now }
     {
-        self.contains(a) || self.contains(b)
-    }
-
-    // Whether one of the three operators is in the set.
-    pub fn has_some(self, a: u32, b: u32, c: u32) -> bool
-        ensures { result ≡ any (in_halves self.low self.high) (a ∷ b ∷ c ∷ []) }
-    {
-        self.contains(a) || self.has_either(b, c)
+        ops.iter().any(|op| self.contains(*op))
     }
 
     // Whether the sets share an operator.

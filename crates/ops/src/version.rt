@@ -11,16 +11,11 @@ pub const INVALID: i16 = -1;
 pub fn effective(raw: i16) -> i16
     ensures { result ≡ order.effective raw }
 {
-    if raw < 0 {
-        return INVALID;
-    }
-    if LATEST < raw {
-        return LATEST;
-    }
-    raw
+    raw.clamp(INVALID, LATEST)
 }
 
-// Whether a version is 5 or above: nested conditionals pair to the right.
+// Whether a version is 5 or above: nested conditionals pair to the right. This and the next are one comparison each, and one function of
+// the bound would be no plainer than `<=`.
 pub fn is_from_5(version: i16) -> bool
     ensures { result ≡ order.is_from 5 version }
 {

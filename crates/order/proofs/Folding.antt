@@ -3,7 +3,7 @@
 use mathlib.Core.{Path.{◌≡◌, refl, sym, ap, ◌∙◌}, Bool.{Bool, true, false, ◌&&◌, ◌||◌}, List.{List, [], ◌∷◌, ◌++◌}}
 use Prim.Native.Nat.{ℕ, zero, suc, ◌+◌}
 use native.Mathlib.{Numerals.{add-one}, Omega.{arith}}
-use lib.{Dec.{eqb}, ListN.{drop}}
+use lib.{Dec.{eqb}, ListN.{drop, length}}
 use borrow.Author.Tests.{ne_eqb}
 use Rattle.molang.specs.Operator
 use Rattle.molang.specs.{Forest.{Forest, nil}, Message.{Message, multiple_roots, Result, ok, fail}, Calls.{query_or_loop, math}}
@@ -13,7 +13,7 @@ use Rattle.molang.proofs.{Trees.{both as both_true}, Passes.{is_nested, all_nest
 use Rattle.molang.specs.Work as kinds
 use Rattle.levels.specs.{Passes.{Runs}, declared.turns.Pass.{Pass as State}}
 use Rattle.levels.specs.Passes as levels
-use Rattle.order.specs.declared.Choice.TheVariants.{Run, Skip}
+use Rattle.std.specs.Prelude.{None, Some}
 use Rattle.order.specs.Ranks.{later, Starts, call, unsplit_pass, array, math_call, unary, conditional_pass, return_pass, point, plus}
 use Rattle.order.specs.Ranks.{level, Chosen, over, unused, used}
 
@@ -68,17 +68,13 @@ drop-next [] (suc k) = refl
 drop-next (p ∷ ps) zero = refl
 drop-next (p ∷ ps) (suc k) = drop-next ps k
 
--- At each rank but 3 a failure ends the reading; every pass goes through nested lists; there are no more than 23.
+-- At each rank but 3 a failure ends the reading; every pass goes through nested lists.
 abbrev ends-but : ℕ → List Pass → Bool
 ends-but k [] = true
 ends-but k (p ∷ ps) = (eqb k 3 || ends_reading p) && ends-but (suc k) ps
 
-abbrev is-nil : List Pass → Bool
-is-nil [] = true
-is-nil (p ∷ ps) = false
-
 abbrev right : List Pass → Bool
-right ps = ends-but 0 ps && (all_nested ps && is-nil (drop 23 ps))
+right ps = ends-but 0 ps && all_nested ps
 
 later-right : (r : Rules) → right (later r) ≡ true
 unfolding order comparisons logic conditionals ends_reading is_nested all_nested
@@ -98,14 +94,11 @@ later-ends : (r : Rules) → ends-but 0 (later r) ≡ true
 later-ends r = (both_true (ends-but 0 (later r)) _ (later-right r)).0
 
 later-nested : (r : Rules) → all_nested (later r) ≡ true
-later-nested r = (both_true (all_nested (later r)) _ (both_true (ends-but 0 (later r)) _ (later-right r)).1).0
+later-nested r = (both_true (ends-but 0 (later r)) _ (later-right r)).1
 
-later-done : (r : Rules) → drop 23 (later r) ≡ []
-later-done r = none (drop 23 (later r)) (both_true (all_nested (later r)) _ (both_true (ends-but 0 (later r)) _ (later-right r)).1).1
-  where
-    none : (ps : List Pass) → is-nil ps ≡ true → ps ≡ []
-    none [] e = refl
-    none (p ∷ ps) e = cc
+drop-all : (ps : List Pass) → drop (length ps) ps ≡ []
+drop-all [] = refl
+drop-all (p ∷ ps) = drop-all ps
 
 nested-from : (ps : List Pass) → all_nested ps ≡ true → (k : ℕ) → all_nested (drop k ps) ≡ true
 unfolding all_nested
@@ -158,8 +151,8 @@ of-kind (level {ops = ops} covers) = record { kind = kinds.binary ops; runs-kind
 
 -- After the last rank: the roots.
 pub grouped-last : (n : ℕ) (u : ℕ → Bool) (r : Rules) (so_far : List Message) (f : Forest)
-    → grouped n u (drop 23 (later r)) so_far f ≡ rooted n so_far f
-grouped-last n u r so_far f = unfold grouped in ap (λ (l : List Pass). grouped n u l so_far f) (later-done r)
+    → grouped n u (drop (length (later r)) (later r)) so_far f ≡ rooted n so_far f
+grouped-last n u r so_far f = unfold grouped in ap (λ (l : List Pass). grouped n u l so_far f) (drop-all (later r))
 
 module _ (n : ℕ) (u : ℕ → Bool) (r : Rules) (k : ℕ) (so_far : List Message) (f : Forest) where
   -- The reading from rank j on.
@@ -169,11 +162,11 @@ module _ (n : ℕ) (u : ℕ → Bool) (r : Rules) (k : ℕ) (so_far : List Messa
   from_next : drop (k + 1) (later r) ≡ tail (drop k (later r))
   from_next = ap (λ (j : ℕ). drop j (later r)) (add-one k) ∙ drop-next (later r) k
 
-  skipped : (qs : List Pass) → Chosen u qs Skip → grouped n u qs so_far f ≡ grouped n u (tail qs) so_far f
+  skipped : (qs : List Pass) → Chosen u qs None → grouped n u qs so_far f ≡ grouped n u (tail qs) so_far f
   skipped qs over = refl
   skipped qs (unused {p = p} {ps = ps} e) = skip_first n u p e ps so_far f
 
-  pub grouped-skip : Chosen u (drop k (later r)) Skip → from k so_far f ≡ from (k + 1) so_far f
+  pub grouped-skip : Chosen u (drop k (later r)) None → from k so_far f ≡ from (k + 1) so_far f
   grouped-skip c = skipped (drop k (later r)) c ∙ ap (λ (l : List Pass). grouped n u l so_far f) (sym from_next)
 
   -- What the state that was chosen at rank k makes of the reading. Rank 3 is the pointer's, whose failure leaves an empty list.
@@ -209,8 +202,8 @@ module _ (n : ℕ) (u : ℕ → Bool) (r : Rules) (k : ℕ) (so_far : List Messa
               ∙ grouped-nil n u (drop (k + 1) (later r)) (so_far ++ m) (nested-from (later r) (later-nested r) (k + 1)));
         }
 
-  run : (state : State) (qs : List Pass) → drop k (later r) ≡ qs → Chosen u qs (Run state) → RankRuns state
+  run : (state : State) (qs : List Pass) → drop k (later r) ≡ qs → Chosen u qs (Some state) → RankRuns state
   run state qs at (used {p = p} {ps = ps} t s) = rank-kind p ps at t state s (of-kind s)
 
-  pub rank-runs : (state : State) → Chosen u (drop k (later r)) (Run state) → RankRuns state
+  pub rank-runs : (state : State) → Chosen u (drop k (later r)) (Some state) → RankRuns state
   rank-runs state c = run state (drop k (later r)) refl c

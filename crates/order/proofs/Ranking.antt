@@ -4,10 +4,8 @@ use mathlib.Core.{Path.{◌≡◌, refl, sym, ap, ap₂, ◌∙◌, subst}, Bool
 use mathlib.Core.List.{List, [], ◌∷◌}
 use Prim.Native.Nat.{ℕ, zero, suc, ◌<◌}
 use native.Mathlib.Omega.{arith}
-use lib.{Dec.{T, eqb, ltb}, IntN.{ℤ, pos, negsuc}, ListN.{get_or}}
+use lib.{Dec.{T, eqb, ltb}, IntN.{ℤ, pos, negsuc}, ListN.{length}}
 use borrow.Author.Tests.{eqb-true, eqb-false, ne_eqb, ltb-true, leb-true, le-leb}
-use types.Run.{OneOf, miss}
-use denote.Enum.Declared.{tag_of}
 use Rattle.molang.specs.Operator
 use Rattle.molang.specs.Operator.{any, is_one_of, between, is_math_call, is_query_or_loop}
 use Rattle.molang.specs.Order.{Rules, is_from, Pass, call_pass, statements, arrays, pointer, math_calls, unary_minus_and_not, addition}
@@ -17,8 +15,8 @@ use Rattle.ops.proofs.{OperatorLaws.{agree, agree_at, and_left, and_right}, BitL
 use Rattle.ops.proofs.{ClassLaws.{stands_for_only, stands-for-only}, SetLaws.{math-used}}
 use Rattle.levels.specs.declared.turns.Pass.{Pass as State}
 use Rattle.levels.specs.declared.turns.Pass.TheVariants.{Calls, MathCalls, Unsplit, Split, Arrays, Unary, Binary, Conditional, Returns}
-use Rattle.levels.specs.contracts.turns.Pass.{the_type}
-use Rattle.order.specs.{declared.Choice.TheVariants.{Run, Skip}, declared.Rank.{Rank}}
+use Rattle.std.specs.{Prelude.{None, Some}, Bool.{then_some}}
+use Rattle.order.specs.declared.Rank.{Rank}
 use Rattle.order.specs.Ranks.{used_by, rules_of, later, Starts, call, unsplit_pass, array, math_call, unary, conditional_pass, return_pass}
 use Rattle.order.specs.Ranks.{point, plus, level, call_gate, is_open, is_used, AtRank, past, first, unranked, Ranked, Chosen, over}
 use Rattle.order.specs.Ranks.{unused, used}
@@ -100,7 +98,7 @@ abbrev IsRank : Pass → Rank → Type 0
 IsRank p r = Starts p r.pass × ((set : OpSet) → runs (used_by set) p ≡ (is_open set r.pass && is_used set r))
 
 abbrev rank_of : State → ℕ → ℕ → Rank
-rank_of state low high = record { pass = state; low = low; high = high }
+rank_of state low high = record { pass = state; operators = record { low = low; high = high } }
 
 abbrev level_at : ℕ → ℕ → ℕ → Rank
 level_at c low high = rank_of (Binary (record { 0 = c }) 0) low high
@@ -117,10 +115,9 @@ of-level os c low high t m = unfold runs in by os low high (level (stands-for-on
 
 -- ---- A table
 
--- Each pass at its rank, and empty ranks after the last.
+-- Each pass at its rank.
 data Each : List Pass → List Rank → Type 0 where
   done : Each [] []
-  empty : {rs : List Rank} → Each [] rs → Each [] (unranked ∷ rs)
   next : {p : Pass} {ps : List Pass} {r : Rank} {rs : List Rank} → IsRank p r → Each ps rs → Each (p ∷ ps) (r ∷ rs)
 
 no-bit : (n : ℕ) → n < 128 → in_halves 0 0 n ≡ false
@@ -131,19 +128,15 @@ no-operator set =
     none_below 128 (λ n. used_by set n && in_halves 0 0 n)
     (λ n h. ap (λ (b : Bool). used_by set n && b) (no-bit n h) ∙ and-false (used_by set n))
 
-all-empty : {rs : List Rank} → Each [] rs → (k : ℕ) → AtRank [] (get_or rs k unranked)
-all-empty done zero = past no-operator
-all-empty done (suc k) = past no-operator
-all-empty (empty e) zero = past no-operator
-all-empty (empty e) (suc k) = all-empty e k
-
 ranked : {ps : List Pass} {rs : List Rank} → Each ps rs → Ranked ps rs
 ranked done zero = past no-operator
 ranked done (suc k) = past no-operator
-ranked (empty e) zero = past no-operator
-ranked (empty e) (suc k) = all-empty e k
 ranked (next i e) zero = first i.0 i.1
 ranked (next i e) (suc k) = ranked e k
+
+as-many : {ps : List Pass} {rs : List Rank} → Each ps rs → length rs ≡ length ps
+as-many done = refl
+as-many (next i e) = ap suc (as-many e)
 
 -- Ranks 0 to 8, at every version.
 abbrev front : List Pass → List Pass
@@ -319,63 +312,61 @@ unfolding is_from
 six-five (pos n) e = le-leb 5 n (omega (arith, leb-true 6 n e))
 six-five (negsuc n) e = e
 
+-- The table has the rank of each pass of the version, and no more.
+abbrev IsTable : ℤ → List Rank → Type 0
+IsTable v table = Ranked (later (rules_of v)) table × (length table ≡ length (later (rules_of v)))
+
 module _ (v : ℤ) where
-  table_is : (b6 b5 : Bool) (table : List Rank) → is_from 6 v ≡ b6 → is_from 5 v ≡ b5 → Each (later (ruled b6 b5)) table
-      → Ranked (later (rules_of v)) table
-  table_is b6 b5 table e6 e5 e = subst (λ (r : Rules). Ranked (later r) table) (sym (ap₂ ruled e6 e5)) (ranked e)
+  table_is : (b6 b5 : Bool) (table : List Rank) → is_from 6 v ≡ b6 → is_from 5 v ≡ b5 → Each (later (ruled b6 b5)) table → IsTable v table
+  table_is b6 b5 table e6 e5 e =
+      subst (λ (r : Rules). Ranked (later r) table × (length table ≡ length (later r))) (sym (ap₂ ruled e6 e5)) (ranked e, as-many e)
 
   pub before-5 : is_from 6 v ≡ false → is_from 5 v ≡ false
-      → Ranked (later (rules_of v)) (front-ranks (compared-ranks (or-and-ranks (branched-ranks (end-ranks [])))))
+      → IsTable v (front-ranks (compared-ranks (or-and-ranks (branched-ranks (end-ranks [])))))
   unfolding order comparisons logic conditionals
   before-5 e6 e5 = table_is false false _ e6 e5 (front-each (compared-each (or-and-each (branched-each (end-each done)))))
 
-  pub at_5 : is_from 6 v ≡ false → is_from 5 v ≡ true
-      → Ranked (later (rules_of v)) (front-ranks (compared-ranks (or-and-ranks (folded-ranks (end-ranks (unranked ∷ []))))))
+  pub at_5 : is_from 6 v ≡ false → is_from 5 v ≡ true → IsTable v (front-ranks (compared-ranks (or-and-ranks (folded-ranks (end-ranks [])))))
   unfolding order comparisons logic conditionals
-  at_5 e6 e5 = table_is false true _ e6 e5 (front-each (compared-each (or-and-each (folded-each (end-each (empty done))))))
+  at_5 e6 e5 = table_is false true _ e6 e5 (front-each (compared-each (or-and-each (folded-each (end-each done)))))
 
-  pub from-6 : is_from 6 v ≡ true
-      → Ranked (later (rules_of v))
-      (front-ranks (compared-together-ranks (and-or-ranks (folded-ranks (end-ranks
-      (unranked ∷ unranked ∷ unranked ∷ unranked ∷ unranked ∷ []))))))
+  pub from-6 : is_from 6 v ≡ true → IsTable v (front-ranks (compared-together-ranks (and-or-ranks (folded-ranks (end-ranks [])))))
   unfolding order comparisons logic conditionals
   from-6 e6 =
       table_is true true _ e6 (six-five v e6)
-      (front-each (compared-together-each (and-or-each (folded-each (end-each (empty (empty (empty (empty (empty done))))))))))
+      (front-each (compared-together-each (and-or-each (folded-each (end-each done)))))
 
 -- ---- What is chosen
 
 module _ (set : OpSet) (rank : Rank) where
   pub chosen-run : is_used set rank ≡ true → is_open set rank.pass ≡ true → (ps : List Pass) → AtRank ps rank
-      → Chosen (used_by set) ps (Run rank.pass)
+      → Chosen (used_by set) ps (Some rank.pass)
   chosen-run e o ps (past none) = absurd (true≢false (sym e ∙ none set))
   chosen-run e o ps (first s asks) = used (asks set ∙ rw (o, e)) s
 
-  skip : (is_open set rank.pass && is_used set rank) ≡ false → (ps : List Pass) → AtRank ps rank → Chosen (used_by set) ps Skip
+  skip : (is_open set rank.pass && is_used set rank) ≡ false → (ps : List Pass) → AtRank ps rank → Chosen (used_by set) ps None
   skip e ps (past none) = over
   skip e ps (first s asks) = unused (asks set ∙ e)
 
-  pub chosen-unused : is_used set rank ≡ false → (ps : List Pass) → AtRank ps rank → Chosen (used_by set) ps Skip
+  pub chosen-unused : is_used set rank ≡ false → (ps : List Pass) → AtRank ps rank → Chosen (used_by set) ps None
   chosen-unused e = skip (ap (λ (b : Bool). is_open set rank.pass && b) e ∙ and-false (is_open set rank.pass))
 
   -- calls, behind their gate
-  pub chosen-call : rank.pass ≡ Calls → is_used set rank ≡ true → any (used_by set) call_gate ≡ true → (ps : List Pass) → AtRank ps rank
-      → Chosen (used_by set) ps (Run Calls)
-  chosen-call e t gate ps at = subst (λ (p : State). Chosen (used_by set) ps (Run p)) e (chosen-run t (ap (is_open set) e ∙ gate) ps at)
-
-  pub chosen-shut : rank.pass ≡ Calls → any (used_by set) call_gate ≡ false → (ps : List Pass) → AtRank ps rank → Chosen (used_by set) ps Skip
-  chosen-shut e gate = skip (ap (λ (b : Bool). b && is_used set rank) (ap (is_open set) e ∙ gate))
+  pub chosen-gated : rank.pass ≡ Calls → is_used set rank ≡ true → (b : Bool) → any (used_by set) call_gate ≡ b → (ps : List Pass)
+      → AtRank ps rank → Chosen (used_by set) ps (then_some b Calls)
+  chosen-gated e t true gate ps at = subst (λ (p : State). Chosen (used_by set) ps (Some p)) e (chosen-run t (ap (is_open set) e ∙ gate) ps at)
+  chosen-gated e t false gate ps at = skip (ap (λ (b : Bool). b && is_used set rank) (ap (is_open set) e ∙ gate)) ps at
 
 pub gate-open : (set : OpSet) → any (used_by set) call_gate ≡ some_below 128 (λ n. used_by set n && in_halves 0x300_0000_0015 0x200 n)
 gate-open set = unfold any is_one_of in_halves in asked (used_by set) call_gate 0x300_0000_0015 0x200 tt
 
-pub open-other : (set : OpSet) (p : State) → OneOf (1 ∷ 2 ∷ 3 ∷ 4 ∷ 5 ∷ 6 ∷ 7 ∷ 8 ∷ []) (tag_of the_type p) → is_open set p ≡ true
-open-other set Calls t = absurd (miss (1 ∷ 2 ∷ 3 ∷ 4 ∷ 5 ∷ 6 ∷ 7 ∷ 8 ∷ []) 0 tt t)
-open-other set MathCalls t = refl
-open-other set Unsplit t = refl
-open-other set (Split n) t = refl
-open-other set (Arrays a b) t = refl
-open-other set Unary t = refl
-open-other set (Binary classes pending) t = refl
-open-other set (Conditional tokens) t = refl
-open-other set Returns t = refl
+pub open-other : (set : OpSet) (p : State) → (p ≡ Calls → ⊥) → is_open set p ≡ true
+open-other set Calls other = absurd (other refl)
+open-other set MathCalls other = refl
+open-other set Unsplit other = refl
+open-other set (Split n) other = refl
+open-other set (Arrays a b) other = refl
+open-other set Unary other = refl
+open-other set (Binary classes pending) other = refl
+open-other set (Conditional tokens) other = refl
+open-other set Returns other = refl

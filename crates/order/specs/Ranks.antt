@@ -1,6 +1,6 @@
 -- The definition's order of passes by rank: what it means that a table has the order's pass at each rank, and that the code chose the pass
 -- of a rank: the state in which that pass starts if the pass runs, and nothing if it does not or if no pass is left.
-use Rattle.std.specs.Prelude.{ℕ, ◌≡◌, Bool, true, false, ◌&&◌, List, [], ◌∷◌, ℤ, get_or, drop}
+use Rattle.std.specs.Prelude.{ℕ, ◌≡◌, Bool, true, false, ◌&&◌, List, [], ◌∷◌, ℤ, get_or, drop, Option, None, Some}
 use Rattle.molang.specs.Operator
 use Rattle.molang.specs.Operator.{any, is_one_of}
 use Rattle.molang.specs.Order.{Rules, is_from, Pass, call_pass, statements, arrays, pointer, math_calls, unary_minus_and_not, addition}
@@ -11,8 +11,6 @@ use Rattle.ops.specs.declared.sets.OpSet.{OpSet}
 use Rattle.levels.specs.Passes.{Covers}
 use Rattle.levels.specs.declared.turns.Pass.{Pass as State}
 use Rattle.levels.specs.declared.turns.Pass.TheVariants.{Calls, MathCalls, Unsplit, Split, Arrays, Unary, Binary, Conditional, Returns}
-use Rattle.order.specs.declared.Choice.{Choice}
-use Rattle.order.specs.declared.Choice.TheVariants.{Run, Skip}
 use Rattle.order.specs.declared.Rank.{Rank}
 
 -- The set of two halves as the definition takes it.
@@ -62,7 +60,7 @@ is_open set Returns = true
 
 -- An operator of the rank is used.
 abbrev pub is_used : OpSet → Rank → Bool
-is_used set rank = some_below 128 (λ n. used_by set n && in_halves rank.low rank.high n)
+is_used set rank = some_below 128 (λ n. used_by set n && used_by rank.operators n)
 
 -- The rank of the first of these passes: the state in which it starts, and what it runs by; or an empty one if none is left.
 pub data AtRank : List Pass → Rank → Type 0 where
@@ -72,7 +70,7 @@ pub data AtRank : List Pass → Rank → Type 0 where
 
 -- A rank of no operator.
 abbrev pub unranked : Rank
-unranked = record { pass = Calls; low = 0; high = 0 }
+unranked = record { pass = Calls; operators = record { low = 0; high = 0 } }
 
 -- The table has the rank of each of the passes, in their order.
 abbrev pub Ranked : List Pass → List Rank → Type 0
@@ -81,7 +79,7 @@ Ranked ps table = (k : ℕ) → AtRank (drop k ps) (get_or table k unranked)
 -- ---- What is chosen
 
 -- What is chosen of the first of these passes, under a used set.
-pub data Chosen (u : ℕ → Bool) : List Pass → Choice → Type 0 where
-  over : Chosen u [] Skip
-  unused : {p : Pass} {ps : List Pass} → runs u p ≡ false → Chosen u (p ∷ ps) Skip
-  used : {p : Pass} {ps : List Pass} {state : State} → runs u p ≡ true → Starts p state → Chosen u (p ∷ ps) (Run state)
+pub data Chosen (u : ℕ → Bool) : List Pass → Option State → Type 0 where
+  over : Chosen u [] None
+  unused : {p : Pass} {ps : List Pass} → runs u p ≡ false → Chosen u (p ∷ ps) None
+  used : {p : Pass} {ps : List Pass} {state : State} → runs u p ≡ true → Starts p state → Chosen u (p ∷ ps) (Some state)

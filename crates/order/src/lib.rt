@@ -3,7 +3,7 @@
 // says when a table is the definition's order.
 #![tactic(auto)]
 
-ghost use Rattle.std.specs.Prelude.{List};
+ghost use Rattle.std.specs.Prelude.{◌≡◌, List, length};
 ghost use Rattle.molang.specs.Order as definition;
 ghost use Rattle.order.specs.Ranks.{used_by, rules_of, later, Ranked, AtRank, Chosen};
 
@@ -13,375 +13,199 @@ use ops::op;
 use ops::sets::OpSet;
 use ops::version::{is_from_5, is_from_6};
 
-// A pass, or none if its operators are not used.
-#[derive(Clone, Copy)]
-pub enum Choice {
-    Run(Pass),
-    Skip,
-}
+// The pointer's rank.
+pub const POINTER: usize = 3;
 
-// How many ranks there are, and which is the pointer's.
-pub const RANKS: u32 = 23;
-
-pub const POINTER: u32 = 3;
-
-// A pass as it starts, and the operators of which one has to be used, in two halves.
+// A pass as it starts, and the operators of which one has to be used.
 #[derive(Clone, Copy)]
 pub struct Rank {
     pub pass: Pass,
-    pub low: u64,
-    pub high: u64,
+    pub operators: OpSet,
+}
+
+// The set of these operators.
+macro_rules! operators {
+    ($($operator:ident),+) => {
+        OpSet {
+            low: (($(1u128 << op::$operator)|+) & 0xffff_ffff_ffff_ffff) as u64,
+            high: (($(1u128 << op::$operator)|+) >> 64) as u64,
+        }
+    };
+}
+
+// The rank of a pass, by its operators.
+macro_rules! rank {
+    ($pass:expr, $($operator:ident),+) => {
+        Rank { pass: $pass, operators: operators!($($operator),+) }
+    };
+}
+
+// The rank of a binary level, by its classes and its operators.
+macro_rules! level {
+    ($classes:ident, $($operator:ident),+) => {
+        rank!(Pass::Binary { classes: TokenClasses::$classes, pending: 0 }, $($operator),+)
+    };
+}
+
+// The ranks of a version: those up to the binary `+` and from `??` on are every version's.
+macro_rules! ranks {
+    ($($rank:ident),+) => {
+        [
+            Rank::CALLS,
+            Rank::STATEMENTS,
+            Rank::ARRAYS,
+            Rank::POINTER,
+            Rank::MATH_CALLS,
+            Rank::UNARY,
+            Rank::DIV,
+            Rank::MUL,
+            Rank::ADD,
+            $(Rank::$rank,)+
+            Rank::NULL_COALESCING,
+            Rank::COMMA,
+            Rank::ASSIGNMENT,
+            Rank::RETURNS,
+        ]
+    };
 }
 
 impl Rank {
-    const CALLS: Self = Self {
-        pass: Pass::Calls,
-        low: 1 << op::QUERY_FUNCTION,
-        high: 1 << (op::LOOP - 64) | 1 << (op::FOR_EACH - 64),
-    };
+    const CALLS: Self = rank!(Pass::Calls, QUERY_FUNCTION, LOOP, FOR_EACH);
 
-    const STATEMENTS: Self = Self {
-        pass: Pass::Unsplit,
-        low: 0,
-        high: 1 << (op::SEMICOLON - 64),
-    };
+    const STATEMENTS: Self = rank!(Pass::Unsplit, SEMICOLON);
 
-    const ARRAYS: Self = Self {
-        pass: Pass::Arrays { array: 0, lent: 0 },
-        low: 1 << op::ARRAY_VARIABLE,
-        high: 0,
-    };
+    const ARRAYS: Self = rank!(Pass::Arrays { array: 0, lent: 0 }, ARRAY_VARIABLE);
 
-    const POINTER: Self = Self {
-        pass: Pass::Binary {
-            classes: TokenClasses::POINTER,
-            pending: 0,
-        },
-        low: 0,
-        high: 1 << (op::POINTER - 64),
-    };
+    const POINTER: Self = level!(POINTER, POINTER);
 
     const MATH_CALLS: Self = Self {
         pass: Pass::MathCalls,
-        low: OpSet::MATH_CALLS.low,
-        high: OpSet::MATH_CALLS.high,
+        operators: OpSet::MATH_CALLS,
     };
 
-    const UNARY: Self = Self {
-        pass: Pass::Unary,
-        low: 1 << op::NEGATE | 1 << op::LOGICAL_NOT,
-        high: 0,
-    };
+    const UNARY: Self = rank!(Pass::Unary, NEGATE, LOGICAL_NOT);
 
-    const DIV: Self = Self {
-        pass: Pass::Binary {
-            classes: TokenClasses::DIV,
-            pending: 0,
-        },
-        low: 1 << op::DIV,
-        high: 0,
-    };
+    const DIV: Self = level!(DIV, DIV);
 
-    const MUL: Self = Self {
-        pass: Pass::Binary {
-            classes: TokenClasses::MUL,
-            pending: 0,
-        },
-        low: 1 << op::MUL,
-        high: 0,
-    };
+    const MUL: Self = level!(MUL, MUL);
 
     // The unary pass turns a binary `-` into `+`.
-    const ADD: Self = Self {
-        pass: Pass::Binary {
-            classes: TokenClasses::ONLY_ADD,
-            pending: 0,
-        },
-        low: 1 << op::NEGATE | 1 << op::ADD,
-        high: 0,
-    };
+    const ADD: Self = level!(ONLY_ADD, NEGATE, ADD);
 
-    const LESS_THAN: Self = Self {
-        pass: Pass::Binary {
-            classes: TokenClasses::LESS_THAN,
-            pending: 0,
-        },
-        low: 1 << op::LESS_THAN,
-        high: 0,
-    };
+    const LESS_THAN: Self = level!(LESS_THAN, LESS_THAN);
 
-    const LOGICAL_EQUAL: Self = Self {
-        pass: Pass::Binary {
-            classes: TokenClasses::LOGICAL_EQUAL,
-            pending: 0,
-        },
-        low: 1 << op::LOGICAL_EQUAL,
-        high: 0,
-    };
+    const LOGICAL_EQUAL: Self = level!(LOGICAL_EQUAL, LOGICAL_EQUAL);
 
-    const GREATER_EQUAL: Self = Self {
-        pass: Pass::Binary {
-            classes: TokenClasses::GREATER_EQUAL,
-            pending: 0,
-        },
-        low: 1 << op::GREATER_EQUAL,
-        high: 0,
-    };
+    const GREATER_EQUAL: Self = level!(GREATER_EQUAL, GREATER_EQUAL);
 
-    const GREATER_THAN: Self = Self {
-        pass: Pass::Binary {
-            classes: TokenClasses::GREATER_THAN,
-            pending: 0,
-        },
-        low: 1 << op::GREATER_THAN,
-        high: 0,
-    };
+    const GREATER_THAN: Self = level!(GREATER_THAN, GREATER_THAN);
 
-    const LESS_EQUAL: Self = Self {
-        pass: Pass::Binary {
-            classes: TokenClasses::LESS_EQUAL,
-            pending: 0,
-        },
-        low: 1 << op::LESS_EQUAL,
-        high: 0,
-    };
+    const LESS_EQUAL: Self = level!(LESS_EQUAL, LESS_EQUAL);
 
-    const LOGICAL_NOT_EQUAL: Self = Self {
-        pass: Pass::Binary {
-            classes: TokenClasses::LOGICAL_NOT_EQUAL,
-            pending: 0,
-        },
-        low: 1 << op::LOGICAL_NOT_EQUAL,
-        high: 0,
-    };
+    const LOGICAL_NOT_EQUAL: Self = level!(LOGICAL_NOT_EQUAL, LOGICAL_NOT_EQUAL);
 
-    const COMPARISONS: Self = Self {
-        pass: Pass::Binary {
-            classes: TokenClasses::COMPARISONS,
-            pending: 0,
-        },
-        low: 1 << op::LESS_THAN
-            | 1 << op::LESS_EQUAL
-            | 1 << op::GREATER_EQUAL
-            | 1 << op::GREATER_THAN,
-        high: 0,
-    };
+    const COMPARISONS: Self = level!(
+        COMPARISONS,
+        LESS_THAN,
+        LESS_EQUAL,
+        GREATER_EQUAL,
+        GREATER_THAN
+    );
 
-    const EQUALITIES: Self = Self {
-        pass: Pass::Binary {
-            classes: TokenClasses::EQUALITIES,
-            pending: 0,
-        },
-        low: 1 << op::LOGICAL_EQUAL | 1 << op::LOGICAL_NOT_EQUAL,
-        high: 0,
-    };
+    const EQUALITIES: Self = level!(EQUALITIES, LOGICAL_EQUAL, LOGICAL_NOT_EQUAL);
 
-    const LOGICAL_OR: Self = Self {
-        pass: Pass::Binary {
-            classes: TokenClasses::LOGICAL_OR,
-            pending: 0,
-        },
-        low: 1 << op::LOGICAL_OR,
-        high: 0,
-    };
+    const LOGICAL_OR: Self = level!(LOGICAL_OR, LOGICAL_OR);
 
-    const LOGICAL_AND: Self = Self {
-        pass: Pass::Binary {
-            classes: TokenClasses::LOGICAL_AND,
-            pending: 0,
-        },
-        low: 1 << op::LOGICAL_AND,
-        high: 0,
-    };
+    const LOGICAL_AND: Self = level!(LOGICAL_AND, LOGICAL_AND);
 
-    const CONDITIONAL_ELSE: Self = Self {
-        pass: Pass::Binary {
-            classes: TokenClasses::ONLY_CONDITIONAL_ELSE,
-            pending: 0,
-        },
-        low: 1 << op::CONDITIONAL_ELSE,
-        high: 0,
-    };
+    const CONDITIONAL_ELSE: Self = level!(ONLY_CONDITIONAL_ELSE, CONDITIONAL_ELSE);
 
-    const CONDITIONAL: Self = Self {
-        pass: Pass::Binary {
-            classes: TokenClasses::ONLY_CONDITIONAL,
-            pending: 0,
-        },
-        low: 1 << op::CONDITIONAL,
-        high: 0,
-    };
+    const CONDITIONAL: Self = level!(ONLY_CONDITIONAL, CONDITIONAL);
 
-    const CONDITIONALS: Self = Self {
-        pass: Pass::Conditional { tokens: 0 },
-        low: 1 << op::CONDITIONAL | 1 << op::CONDITIONAL_ELSE,
-        high: 0,
-    };
+    const CONDITIONALS: Self = rank!(
+        Pass::Conditional { tokens: 0 },
+        CONDITIONAL,
+        CONDITIONAL_ELSE
+    );
 
-    const NULL_COALESCING: Self = Self {
-        pass: Pass::Binary {
-            classes: TokenClasses::NULL_COALESCING,
-            pending: 0,
-        },
-        low: 1 << op::NULL_COALESCING,
-        high: 0,
-    };
+    const NULL_COALESCING: Self = level!(NULL_COALESCING, NULL_COALESCING);
 
-    const COMMA: Self = Self {
-        pass: Pass::Binary {
-            classes: TokenClasses::COMMA,
-            pending: 0,
-        },
-        low: 0,
-        high: 1 << (op::COMMA - 64),
-    };
+    const COMMA: Self = level!(COMMA, COMMA);
 
-    const ASSIGNMENT: Self = Self {
-        pass: Pass::Binary {
-            classes: TokenClasses::ASSIGNMENT,
-            pending: 0,
-        },
-        low: 0,
-        high: 1 << (op::ASSIGNMENT - 64),
-    };
+    const ASSIGNMENT: Self = level!(ASSIGNMENT, ASSIGNMENT);
 
-    const RETURNS: Self = Self {
-        pass: Pass::Returns,
-        low: 0,
-        high: 1 << (op::RETURN - 64),
-    };
-
-    // After the last pass.
-    const NOTHING: Self = Self {
-        pass: Pass::Calls,
-        low: 0,
-        high: 0,
-    };
+    const RETURNS: Self = rank!(Pass::Returns, RETURN);
 }
 
 // What the calls stand behind besides: with `loop` or `for_each` alone they are not grouped.
-const CALL_GATE: OpSet = OpSet {
-    low: 1 << op::LEFT_BRACE
-        | 1 << op::LEFT_BRACKET
-        | 1 << op::LEFT_PARENTHESIS
-        | 1 << op::QUERY_FUNCTION
-        | 1 << op::ARRAY_VARIABLE,
-    high: 1 << (op::SEMICOLON - 64),
-};
+const CALL_GATE: OpSet = operators!(
+    LEFT_BRACE,
+    LEFT_BRACKET,
+    LEFT_PARENTHESIS,
+    QUERY_FUNCTION,
+    ARRAY_VARIABLE,
+    SEMICOLON
+);
 
 // Before version 5: each comparison is a level, OR comes before AND, `:` and `?` are binary operators.
-const BEFORE_5: [Rank; 23] = [
-    Rank::CALLS,
-    Rank::STATEMENTS,
-    Rank::ARRAYS,
-    Rank::POINTER,
-    Rank::MATH_CALLS,
-    Rank::UNARY,
-    Rank::DIV,
-    Rank::MUL,
-    Rank::ADD,
-    Rank::LESS_THAN,
-    Rank::LOGICAL_EQUAL,
-    Rank::GREATER_EQUAL,
-    Rank::GREATER_THAN,
-    Rank::LESS_EQUAL,
-    Rank::LOGICAL_NOT_EQUAL,
-    Rank::LOGICAL_OR,
-    Rank::LOGICAL_AND,
-    Rank::CONDITIONAL_ELSE,
-    Rank::CONDITIONAL,
-    Rank::NULL_COALESCING,
-    Rank::COMMA,
-    Rank::ASSIGNMENT,
-    Rank::RETURNS,
+static BEFORE_5: [Rank; 23] = ranks![
+    LESS_THAN,
+    LOGICAL_EQUAL,
+    GREATER_EQUAL,
+    GREATER_THAN,
+    LESS_EQUAL,
+    LOGICAL_NOT_EQUAL,
+    LOGICAL_OR,
+    LOGICAL_AND,
+    CONDITIONAL_ELSE,
+    CONDITIONAL
 ];
 
 // At version 5: `?` and `:` are one pass.
-const AT_5: [Rank; 23] = [
-    Rank::CALLS,
-    Rank::STATEMENTS,
-    Rank::ARRAYS,
-    Rank::POINTER,
-    Rank::MATH_CALLS,
-    Rank::UNARY,
-    Rank::DIV,
-    Rank::MUL,
-    Rank::ADD,
-    Rank::LESS_THAN,
-    Rank::LOGICAL_EQUAL,
-    Rank::GREATER_EQUAL,
-    Rank::GREATER_THAN,
-    Rank::LESS_EQUAL,
-    Rank::LOGICAL_NOT_EQUAL,
-    Rank::LOGICAL_OR,
-    Rank::LOGICAL_AND,
-    Rank::CONDITIONALS,
-    Rank::NULL_COALESCING,
-    Rank::COMMA,
-    Rank::ASSIGNMENT,
-    Rank::RETURNS,
-    Rank::NOTHING,
+static AT_5: [Rank; 22] = ranks![
+    LESS_THAN,
+    LOGICAL_EQUAL,
+    GREATER_EQUAL,
+    GREATER_THAN,
+    LESS_EQUAL,
+    LOGICAL_NOT_EQUAL,
+    LOGICAL_OR,
+    LOGICAL_AND,
+    CONDITIONALS
 ];
 
 // From version 6: four comparisons together, then both equalities; AND comes before OR.
-const FROM_6: [Rank; 23] = [
-    Rank::CALLS,
-    Rank::STATEMENTS,
-    Rank::ARRAYS,
-    Rank::POINTER,
-    Rank::MATH_CALLS,
-    Rank::UNARY,
-    Rank::DIV,
-    Rank::MUL,
-    Rank::ADD,
-    Rank::COMPARISONS,
-    Rank::EQUALITIES,
-    Rank::LOGICAL_AND,
-    Rank::LOGICAL_OR,
-    Rank::CONDITIONALS,
-    Rank::NULL_COALESCING,
-    Rank::COMMA,
-    Rank::ASSIGNMENT,
-    Rank::RETURNS,
-    Rank::NOTHING,
-    Rank::NOTHING,
-    Rank::NOTHING,
-    Rank::NOTHING,
-    Rank::NOTHING,
+static FROM_6: [Rank; 18] = ranks![
+    COMPARISONS,
+    EQUALITIES,
+    LOGICAL_AND,
+    LOGICAL_OR,
+    CONDITIONALS
 ];
 
 // The ranks of a version as the rules use it (`ops::version::effective`).
-pub fn ranks(version: i16) -> [Rank; 23]
-    ensures { Ranked (later (rules_of version)) result }
+pub fn ranks(version: i16) -> &'static [Rank]
+    ensures ranked { Ranked (later (rules_of version)) result.now }
+    ensures no_more { length result.now ≡ length (later (rules_of version)) }
 {
     if is_from_6(version) {
-        return FROM_6;
+        return &FROM_6;
     }
     if is_from_5(version) {
-        return AT_5;
+        return &AT_5;
     }
-    BEFORE_5
+    &BEFORE_5
 }
 
 // The pass of a rank, if it runs under a used set.
-pub fn choose(rank: Rank, used: OpSet) -> Choice
+pub fn choose(rank: Rank, used: OpSet) -> Option<Pass>
     ensures { (ps : List definition.Pass) → AtRank ps rank → Chosen (used_by used) ps result }
 {
-    let pass = rank.pass;
-    let operators = OpSet {
-        low: rank.low,
-        high: rank.high,
-    };
-    if !used.intersects(operators) {
-        return Choice::Skip;
+    if !used.intersects(rank.operators) {
+        return None;
     }
-    match pass {
-        Pass::Calls => {
-            if used.intersects(CALL_GATE) {
-                return Choice::Run(Pass::Calls);
-            }
-            Choice::Skip
-        }
-        _ => Choice::Run(pass),
+    match rank.pass {
+        Pass::Calls => used.intersects(CALL_GATE).then_some(Pass::Calls),
+        pass => Some(pass),
     }
 }

@@ -12,10 +12,12 @@ use Rattle.molang.proofs.{UsedSet.{exact-halves, halves-exact}, ListWords.{token
 use Rattle.molang.proofs.FirstFailure.{before-none, without-number}
 use Rattle.derived.{specs.Derived.{named, highest}, proofs.WordLaws.{named-few, exact-few, highest-few}}
 use Rattle.parse.specs.{declared.Answer.{Answer}, Answers.{call, HasParsed}}
+use Rattle.words.specs.declared.refusals.Refusal.{Refusal}
+use Rattle.std.specs.Prelude.{Result}
 use Rattle.own.specs.Own.{named_call, own_call, reading_of, Readable}
 
 -- A promise of the parse entry about a call is one about the same call.
-pub same-call : {c d : Call} → c ≡ d → {r : Answer} {tree messages work : List ℕ} → HasParsed c r tree messages work
+pub same-call : {c d : Call} → c ≡ d → {r : Result Answer Refusal} {tree messages work : List ℕ} → HasParsed c r tree messages work
     → HasParsed d r tree messages work
 same-call e p = rw e at p
 

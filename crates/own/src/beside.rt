@@ -7,12 +7,5 @@ pub fn same_words(tree: &[u32], again: &[u32], words: usize) -> bool
     requires { (words ≤ length tree.now) × (words ≤ length again.now) }
     ensures { result ≡ eq_words (take words tree.now) (take words again.now) }
 {
-    let mut i = 0usize;
-    while i < words {
-        if tree[i] != again[i] {
-            return false;
-        }
-        i += 1;
-    }
-    true
+    tree[..words] == again[..words]
 }

@@ -13,6 +13,7 @@ ghost use Rattle.own.specs.Own.{named_call, own_call, Readable, reading_of};
 use accept::MOST_LIMIT;
 use derived::{highest_end, used_of};
 use parse::{Answer, parse};
+use words::refusals::Refusal;
 
 // Reads a list with exactly the operators that its words name, whatever the words and the buffers are.
 pub fn read_exactly(
@@ -23,7 +24,7 @@ pub fn read_exactly(
     source_length: u64,
     version: i16,
     limit: u32,
-) -> Answer
+) -> Result<Answer, Refusal>
     ensures { HasParsed
         (named_call list.now tree.old messages.old work.old source_length version limit)
         result tree.new messages.new work.new }
@@ -50,7 +51,7 @@ pub fn read_own(
     work: &mut [u32],
     version: i16,
     limit: u32,
-) -> Answer
+) -> Result<Answer, Refusal>
     ensures { HasParsed
         (own_call list.now tree.old messages.old work.old version limit)
         result tree.new messages.new work.new }
@@ -67,7 +68,7 @@ pub fn read_list(
     messages: &mut [u32],
     work: &mut [u32],
     version: i16,
-) -> Answer
+) -> Result<Answer, Refusal>
     requires { Readable list.now tree.old messages.old work.old }
     ensures result_value { told_of result ≡ told (words_refusal 0 operator_field 0 list.now) (reading_of list.now version) }
     ensures tree_after { tree.new ≡ tree_in (words_refusal 0 operator_field 0 list.now)

@@ -4,18 +4,21 @@ use Prim.Native.Nat.{ℕ, ◌+◌, ◌*◌, ◌≤◌}
 use mathlib.Core.{Path.{◌≡◌, refl, sym, ap, ◌∙◌, subst}, List.{List, [], ◌++◌}}
 use native.Mathlib.Omega.{arith}
 use lib.{IntN.{ℤ}, ListN.{length, replicate, take, drop, length-append, length-drop}, Seq.{length-take-le}}
+use Rattle.levels.specs.declared.failure.Fault.{Fault}
+use Rattle.std.specs.Prelude.{⊤, Result, Option, Some, None, Ok, Err}
 use Rattle.molang.specs.{Forest.{leaves}, Order.{rules}, Read.{read}, Words.{tokens_of}}
 use Rattle.molang.specs.Parse.{Call, reading, told, a_tree, answered, tree_in, tree_after, messages_in, messages_after, work_in, work_after}
 use Rattle.molang.specs.Order as Order
 use Rattle.molang.specs.Read as Reading
+use Rattle.words.specs.Refusals.{reason_number}
+use Rattle.words.specs.declared.refusals.Refusal as code
 use Rattle.ops.specs.declared.sets.OpSet.{OpSet}
 use Rattle.order.specs.Ranks.{used_by, rules_of}
 use Rattle.accept.{specs.Accepting.{is_read, is_refused}, proofs.AcceptLaws.{checked, reads-call, refuses-call}}
 use Rattle.buffers.{specs.Load.{CanLoad, Loaded}, proofs.Loading.{loaded-array}}
-use Rattle.grouping.specs.{declared.grouped.Grouped.{Grouped}, Group.{CanGroup, HasGrouped}}
-use Rattle.scan.specs.{Walk.{CanWalk, TreeRead}, Walked.{HasWalked}, declared.walk.Walked.{Walked}}
-use Rattle.scan.specs.declared.walk.Walked.TheVariants.{Tree as Walked-tree, GivesUp}
-use Rattle.parse.specs.{declared.Answer.{Answer}, declared.Answer.TheVariants.{Tree, Refused as Turned}, Answers.{HasParsed}}
+use Rattle.grouping.specs.{Group.{CanGroup, HasGrouped}}
+use Rattle.scan.specs.{Walk.{CanWalk, TreeRead}, Walked.{HasWalked}}
+use Rattle.parse.specs.{declared.Answer.{Answer}, declared.Answer.TheVariants.{Tree}, Answers.{HasParsed}}
 use Rattle.parse.specs.Fills.{FilledAs, CanFill, Filled, CanRead, HasRead}
 
 -- ---- `read`
@@ -44,7 +47,7 @@ module _ {list W buffer m : List ℕ} {n : ℕ} (p : CanRead list W buffer m n) 
         small = omega (arith, p.words, p.few, loaded.long);
       }
 
-  module _ (used : OpSet) (version effective : ℤ) (g : Grouped) (W2 : List ℕ) (grouped : HasGrouped W1 base n used effective g W2) where
+  module _ (used : OpSet) (version effective : ℤ) (g : Result ⊤ Fault) (W2 : List ℕ) (grouped : HasGrouped W1 base n used effective g W2) where
     pub read-fill : (source_length : ℕ) → CanFill W2 buffer m n source_length g
     read-fill source_length =
         record {
@@ -71,7 +74,7 @@ read_walk p = record { faultless = p.faultless; tokens = p.tokens; few = p.few; 
 
 -- A tree that the walk read.
 pub walk-done : (list buffer m : List ℕ) (source_length : ℕ) (version raw : ℤ) (used : OpSet) (nodes : ℕ) (buffer' : List ℕ) → raw ≡ version
-    → (w : Walked) → w ≡ Walked-tree nodes → HasWalked list (used_by used) raw buffer buffer' w
+    → (w : Option ℕ) → w ≡ Some nodes → HasWalked list (used_by used) raw buffer buffer' w
     → HasRead list buffer m source_length version used (Tree nodes) buffer' m
 unfolding told tree_in messages_in
 walk-done list buffer m source_length version raw used nodes buffer' v w e h =
@@ -82,7 +85,7 @@ walk-done list buffer m source_length version raw used nodes buffer' v w e h =
     }
 
 -- If it gave up, the tree buffer is as it was, and the buffers are as the passes ask for them.
-pub walk_kept : (list buffer : List ℕ) (version : ℤ) (used : OpSet) (buffer' : List ℕ) (w : Walked) → w ≡ GivesUp
+pub walk_kept : (list buffer : List ℕ) (version : ℤ) (used : OpSet) (buffer' : List ℕ) (w : Option ℕ) → w ≡ None
     → HasWalked list (used_by used) version buffer buffer' w → buffer' ≡ buffer
 walk_kept list buffer version used buffer' w e h = subst (HasWalked list (used_by used) version buffer buffer') e h
 
@@ -107,17 +110,17 @@ walk-then list buffer m source_length version raw used r buffer₁ buffer' m' v 
 
 -- ---- the entry
 
-pub refused-meets : (c : Call) (number place : ℕ) → is_refused number place ≡ checked c
-    → HasParsed c (Turned number place) c.tree c.messages c.work
+pub refused-meets : (c : Call) (x : code.Refusal) → is_refused (reason_number x.reason) x.place ≡ checked c
+    → HasParsed c (Err x) c.tree c.messages c.work
 unfolding answered told tree_after tree_in messages_after messages_in work_after work_in
-refused-meets c number place e =
-    let r = refuses-call c number place e in
+refused-meets c x e =
+    let r = refuses-call c _ _ e in
     record { told = rw r; tree = rw r; messages = rw r; work = rw r }
 
 pub read_meets : (c : Call) (n : ℕ) (r : Answer) (tree messages work : List ℕ) → is_read n ≡ checked c
     → HasRead c.list c.tree c.messages c.source_length c.version (record { low = c.used_low; high = c.used_high })
     r tree messages
-    → work ≡ replicate (length c.work) 0 → HasParsed c r tree messages work
+    → work ≡ replicate (length c.work) 0 → HasParsed c (Ok r) tree messages work
 unfolding answered reading tree_after messages_after work_after work_in
 read_meets c n r tree messages work e v cleared =
     let none-refused = (reads-call c n e).0 in

@@ -4,6 +4,7 @@ use Prim.Native.Nat.{ℕ, ◌%◌, ◌≤◌}
 use mathlib.Core.{Path.{◌≡◌, refl, sym, ap, ◌∙◌}, List.{List, [], ◌∷◌, ◌++◌, append_assoc, append-nil}, Option.{none}}
 use native.Mathlib.Omega.{arith}
 use lib.ListN.{length}
+use Rattle.std.specs.Prelude.{Err}
 use Rattle.molang.specs.Forest.{Token}
 use Rattle.molang.specs.Message.{Message, message_record, multiple_roots, closing_mismatch, section_not_closed, no_closing_symbol, record8}
 use Rattle.molang.specs.{Message.{about}, Read.{Answer, messages}, Parse.{record_words, in_front, messages_in}}
@@ -13,7 +14,7 @@ use Rattle.words.proofs.RecordLaws.{laid-front, laid-after}
 use Rattle.nodes.{specs.Store.{TokenAt}, proofs.Tokens.{token-op, token-start, token_end}}
 use Rattle.levels.specs.Failures as failures
 use Rattle.grouping.specs.Grouped.{tells, StandsFor, failed, mismatched, unclosed, pointer_failed}
-use Rattle.grouping.specs.declared.grouped.Grouped.TheVariants.{Failed, Mismatched, Unclosed as Unclosing, PointerFailed}
+use Rattle.levels.specs.declared.failure.Fault.TheVariants.{Failed, Mismatched, Unclosed as Unclosing, PointerFailed}
 use Rattle.levels.specs.{declared.failure.Failure.{Failure}, declared.failure.Mismatch.{Mismatch}, declared.failure.Unclosed.{Unclosed}}
 use Rattle.parse.specs.{Records.{Within, open_record, mismatch_record, unclosed_record, Named, record_for}, Reports.{CanReport, Reported}}
 use Rattle.parse.proofs.RecordLaws.{slot-within, closer-token, says-slots, says-words, tells-one}
@@ -39,21 +40,21 @@ two_records m k = records-then (m ∷ []) k ∙ ap (λ (ws : List ℕ). ws ++ me
 
 -- ---- a failure
 
-pub failed-slots : {W m : List ℕ} {source_length : ℕ} {f : Failure} → CanReport W m source_length (Failed f) → Named W f
+pub failed-slots : {W m : List ℕ} {source_length : ℕ} {f : Failure} → CanReport W m source_length (Err (Failed f)) → Named W f
 failed-slots p = go p.stands p.whole p.some
   where
-    go : {W : List ℕ} {hi n source_length : ℕ} {f : Failure} {a : Answer} → StandsFor W hi n source_length (Failed f) a → length W % 8 ≡ 0
+    go : {W : List ℕ} {hi n source_length : ℕ} {f : Failure} {a : Answer} → StandsFor W hi n source_length (Err (Failed f)) a → length W % 8 ≡ 0
         → 8 ≤ length W
         → Named W f
     go (failed s) whole some = says-slots s whole some
 
 pub failed-reported : (W m m' : List ℕ) (source_length : ℕ) (f : Failure) (r : Record) → m' ≡ laid_at 0 (words_of r) m
     → r ≡ record_for W source_length f
-    → Reported W m source_length (Failed f) m'
+    → Reported W m source_length (Err (Failed f)) m'
 unfolding messages_in
 failed-reported W m m' source_length f r e g = record { records = go }
   where
-    go : (hi n : ℕ) (a : Answer) → StandsFor W hi n source_length (Failed f) a → m' ≡ messages_in none a m
+    go : (hi n : ℕ) (a : Answer) → StandsFor W hi n source_length (Err (Failed f)) a → m' ≡ messages_in none a m
     go hi n a (failed s) = e ∙ (laid-front (words_of r) m ∙ ap (λ (ws : List ℕ). in_front ws m) (ap words_of g ∙ says-words W source_length s))
 
 -- ---- a failed pointer pass
@@ -61,20 +62,20 @@ failed-reported W m m' source_length f r e g = record { records = go }
 pub no-roots-words : (source_length : ℕ) → words_of (unnamed 1 0 source_length) ≡ message_record (multiple_roots 0 source_length 0)
 no-roots-words source_length = unfold words_of message_record in refl
 
-pub pointer-fails : {W m : List ℕ} {source_length : ℕ} {f : Failure} → CanReport W m source_length (PointerFailed f)
-    → CanReport W m source_length (Failed f)
+pub pointer-fails : {W m : List ℕ} {source_length : ℕ} {f : Failure} → CanReport W m source_length (Err (PointerFailed f))
+    → CanReport W m source_length (Err (Failed f))
 pointer-fails {W} {m} {source_length} {f} p = go p.stands
   where
-    go : {hi n : ℕ} {a : Answer} → StandsFor W hi n source_length (PointerFailed f) a → CanReport W m source_length (Failed f)
+    go : {hi n : ℕ} {a : Answer} → StandsFor W hi n source_length (Err (PointerFailed f)) a → CanReport W m source_length (Err (Failed f))
     go {hi} {n} (pointer_failed {ms = ms} t) =
         record { hi = hi; n = n; answer = messages ms; stands = failed (tells t); whole = p.whole; some = p.some; room = p.room }
 
-pub pointer-reported : (W m m' m'' : List ℕ) (source_length : ℕ) (f : Failure) → Reported W m source_length (Failed f) m'
-    → m'' ≡ laid_at 8 (message_record (multiple_roots 0 source_length 0)) m' → Reported W m source_length (PointerFailed f) m''
+pub pointer-reported : (W m m' m'' : List ℕ) (source_length : ℕ) (f : Failure) → Reported W m source_length (Err (Failed f)) m'
+    → m'' ≡ laid_at 8 (message_record (multiple_roots 0 source_length 0)) m' → Reported W m source_length (Err (PointerFailed f)) m''
 unfolding messages_in
 pointer-reported W m m' m'' source_length f v e = record { records = go }
   where
-    go : (hi n : ℕ) (a : Answer) → StandsFor W hi n source_length (PointerFailed f) a → m'' ≡ messages_in none a m
+    go : (hi n : ℕ) (a : Answer) → StandsFor W hi n source_length (Err (PointerFailed f)) a → m'' ≡ messages_in none a m
     go hi n a (pointer_failed {ms = ms} t) =
         let long : length (record_words ms) ≡ 8 = omega (arith, records-length ms, tells-one t) in
         two-laid (record_words ms) (message_record (multiple_roots 0 source_length 0)) m m' m'' long
@@ -96,11 +97,11 @@ two-reported W m m' m'' r q s k {p} e f g h t =
     (f ∙ ap (λ (ws : List ℕ). laid_at 8 ws m') (ap words_of h ∙ open-words t))
     ∙ ap (λ (ws : List ℕ). in_front ws m) (sym (two_records k (section_not_closed p)))
 
-pub mismatch-slots : {W l : List ℕ} {source_length : ℕ} {m : Mismatch} → CanReport W l source_length (Mismatched m)
+pub mismatch-slots : {W l : List ℕ} {source_length : ℕ} {m : Mismatch} → CanReport W l source_length (Err (Mismatched m))
     → Within W m.opener × Within W m.closer × Within W m.outer
 mismatch-slots {W} {l} {source_length} {m} p = go p.stands
   where
-    go : {hi n : ℕ} {a : Answer} → StandsFor W hi n source_length (Mismatched m) a
+    go : {hi n : ℕ} {a : Answer} → StandsFor W hi n source_length (Err (Mismatched m)) a
         → Within W m.opener × Within W m.closer × Within W m.outer
     go (mismatched (failures.mismatched t u v)) = (slot-within t p.whole, slot-within u p.whole, slot-within v p.whole)
 
@@ -109,19 +110,19 @@ mismatch-words : {W : List ℕ} (m : Mismatch) {o k : Token} → TokenAt W m.ope
 mismatch-words m t u = unfold words_of message_record record8 in rw (closer-token t, token-start t, token_end u, token-op t, token-op u)
 
 pub mismatch-reported : (W l l' l'' : List ℕ) (m : Mismatch) (r q : Record) → l' ≡ laid_at 0 (words_of r) l → r ≡ mismatch_record W m
-    → l'' ≡ laid_at 8 (words_of q) l' → q ≡ open_record W m.outer → (source_length : ℕ) → Reported W l source_length (Mismatched m) l''
+    → l'' ≡ laid_at 8 (words_of q) l' → q ≡ open_record W m.outer → (source_length : ℕ) → Reported W l source_length (Err (Mismatched m)) l''
 unfolding messages_in
 mismatch-reported W l l' l'' m r q e g f h source_length = record { records = go }
   where
-    go : (hi n : ℕ) (a : Answer) → StandsFor W hi n source_length (Mismatched m) a → l'' ≡ messages_in none a l
+    go : (hi n : ℕ) (a : Answer) → StandsFor W hi n source_length (Err (Mismatched m)) a → l'' ≡ messages_in none a l
     go hi n a (mismatched (failures.mismatched {o = o} {k = k} t u v)) =
         two-reported W l l' l'' r q m.outer (closing_mismatch o m.start k m.index) e f (ap words_of g ∙ mismatch-words m t u) h v
 
-pub unclosed-slots : {W l : List ℕ} {source_length : ℕ} {u : Unclosed} → CanReport W l source_length (Unclosing u)
+pub unclosed-slots : {W l : List ℕ} {source_length : ℕ} {u : Unclosed} → CanReport W l source_length (Err (Unclosing u))
     → Within W u.inner × Within W u.outer
 unclosed-slots {W} {l} {source_length} {u} p = go p.stands
   where
-    go : {hi n : ℕ} {a : Answer} → StandsFor W hi n source_length (Unclosing u) a → Within W u.inner × Within W u.outer
+    go : {hi n : ℕ} {a : Answer} → StandsFor W hi n source_length (Err (Unclosing u)) a → Within W u.inner × Within W u.outer
     go (unclosed (failures.unclosed t v)) = (slot-within t p.whole, slot-within v p.whole)
 
 unclosed-words : {W : List ℕ} (u : Unclosed) {o : Token} → TokenAt W u.inner o
@@ -129,10 +130,10 @@ unclosed-words : {W : List ℕ} (u : Unclosed) {o : Token} → TokenAt W u.inner
 unclosed-words u t = unfold words_of message_record record8 in rw (closer-token t, token-start t, token_end t, token-op t)
 
 pub unclosed-reported : (W l l' l'' : List ℕ) (u : Unclosed) (r q : Record) → l' ≡ laid_at 0 (words_of r) l → r ≡ unclosed_record W u
-    → l'' ≡ laid_at 8 (words_of q) l' → q ≡ open_record W u.outer → (source_length : ℕ) → Reported W l source_length (Unclosing u) l''
+    → l'' ≡ laid_at 8 (words_of q) l' → q ≡ open_record W u.outer → (source_length : ℕ) → Reported W l source_length (Err (Unclosing u)) l''
 unfolding messages_in
 unclosed-reported W l l' l'' u r q e g f h source_length = record { records = go }
   where
-    go : (hi n : ℕ) (a : Answer) → StandsFor W hi n source_length (Unclosing u) a → l'' ≡ messages_in none a l
+    go : (hi n : ℕ) (a : Answer) → StandsFor W hi n source_length (Err (Unclosing u)) a → l'' ≡ messages_in none a l
     go hi n a (unclosed (failures.unclosed {o = o} t v)) =
         two-reported W l l' l'' r q u.outer (no_closing_symbol o u.start) e f (ap words_of g ∙ unclosed-words u t) h v

@@ -1,6 +1,6 @@
 -- What the reports ask and ensure: words of whole slots and a message buffer for two records; in its front the records of the messages that
 -- what the passes left stands for.
-use Rattle.std.specs.Prelude.{ℕ, ◌+◌, ◌*◌, ◌%◌, ◌≤◌, ◌<◌, ◌≡◌, List, [], length}
+use Rattle.std.specs.Prelude.{ℕ, ◌+◌, ◌*◌, ◌%◌, ◌≤◌, ◌<◌, ◌≡◌, List, [], length, Result, ⊤}
 use Rattle.std.proofs.Math.Option.{none}
 use Rattle.molang.specs.Forest.{Forest, count, size}
 use Rattle.molang.specs.Read.{Answer, rooted}
@@ -10,10 +10,10 @@ use Rattle.words.specs.declared.extent.Extent.{Extent}
 use Rattle.nodes.specs.Store.{wd}
 use Rattle.buffers.specs.Emit.{Linked}
 use Rattle.grouping.specs.Grouped.{StandsFor}
-use Rattle.grouping.specs.declared.grouped.Grouped.{Grouped}
+use Rattle.levels.specs.declared.failure.Fault.{Fault}
 
 -- The words are whole slots; what the passes left stands for an answer.
-pub record CanReport (W messages : List ℕ) (source_length : ℕ) (g : Grouped) : Type 0 where
+pub record CanReport (W messages : List ℕ) (source_length : ℕ) (g : Result ⊤ Fault) : Type 0 where
   pub hi : ℕ
   pub n : ℕ
   pub answer : Answer
@@ -23,16 +23,16 @@ pub record CanReport (W messages : List ℕ) (source_length : ℕ) (g : Grouped)
   pub room : 16 ≤ length messages
 
 -- The answer's records are the front of the message buffer.
-pub record Reported (W messages : List ℕ) (source_length : ℕ) (g : Grouped) (messages' : List ℕ) : Type 0 where
+pub record Reported (W messages : List ℕ) (source_length : ℕ) (g : Result ⊤ Fault) (messages' : List ℕ) : Type 0 where
   pub records : (hi n : ℕ) (answer : Answer) → StandsFor W hi n source_length g answer → messages' ≡ messages_in none answer messages
 
 -- The same if the source has no part in the messages.
-pub record CanReportTwo (W messages : List ℕ) (g : Grouped) : Type 0 where
+pub record CanReportTwo (W messages : List ℕ) (g : Result ⊤ Fault) : Type 0 where
   pub source_length : ℕ
   pub can : CanReport W messages source_length g
 
 -- The answer's two records are the front of the message buffer, whatever the source's length.
-abbrev pub TwoReported : List ℕ → List ℕ → Grouped → List ℕ → Type 0
+abbrev pub TwoReported : List ℕ → List ℕ → Result ⊤ Fault → List ℕ → Type 0
 TwoReported W messages g messages' = (source_length : ℕ) → Reported W messages source_length g messages'
 
 -- ---- the roots

@@ -4,27 +4,26 @@
 
 mod report;
 
-ghost use Rattle.grouping.specs.declared.grouped.Grouped.TheVariants.{Roots};
 ghost use Rattle.parse.specs.Answers.{call, HasParsed};
 ghost use Rattle.parse.specs.Fills.{CanFill, Filled, CanRead, HasRead};
 
-use accept::{Accepted, Sizes, WORK_WORDS, accept};
+use accept::{Sizes, WORK_WORDS, accept};
 use buffers::emit::{clear, lay_out};
 use buffers::load::load;
 use grouping::group::group;
-use grouping::grouped::Grouped;
+use levels::failure::Fault;
 use nodes::slots;
 use nodes::slots::ROOT;
 use ops::sets::OpSet;
 use ops::version::effective;
-use scan::walk::{Walked, walk};
+use scan::walk::walk;
+use words::refusals::Refusal;
 
-// What a call is answered: a tree of so many nodes, so many messages, or a refusal's number and place.
-#[derive(Clone, Copy)]
+// What a call that is read is answered: a tree of so many nodes, or so many messages.
+#[derive(Clone, Copy, Debug, PartialEq, Eq)]
 pub enum Answer {
     Tree(usize),
     Messages(usize),
-    Refused(u32, usize),
 }
 
 // One root is a tree, whose words fill the front of the tree buffer; none or several are a message. `fill` has all that it asks.
@@ -35,8 +34,8 @@ fn fill_roots(
     n: usize,
     source: u32,
 ) -> Answer
-    requires { CanFill work.old tree.old messages.old n source Roots }
-    ensures { Filled work.old tree.old messages.old n source Roots result
+    requires { CanFill work.old tree.old messages.old n source (Ok tt) }
+    ensures { Filled work.old tree.old messages.old n source (Ok tt) result
         tree.new messages.new }
 {
     let root = slots::first_of(work, ROOT);
@@ -59,27 +58,27 @@ fn fill(
     messages: &mut [u32],
     n: usize,
     source: u32,
-    grouped: Grouped,
+    grouped: Result<(), Fault>,
 ) -> Answer
     requires { CanFill work.old tree.old messages.old n source grouped }
     ensures { Filled work.old tree.old messages.old n source grouped result
         tree.new messages.new }
 {
     match grouped {
-        Grouped::Roots => fill_roots(work, tree, messages, n, source),
-        Grouped::Failed(failure) => {
+        Ok(()) => fill_roots(work, tree, messages, n, source),
+        Err(Fault::Failed(failure)) => {
             report::report(work, messages, failure, source);
             Answer::Messages(1)
         }
-        Grouped::Mismatched(mismatch) => {
+        Err(Fault::Mismatched(mismatch)) => {
             report::report_mismatch(work, messages, mismatch);
             Answer::Messages(2)
         }
-        Grouped::Unclosed(unclosed) => {
+        Err(Fault::Unclosed(unclosed)) => {
             report::report_unclosed(work, messages, unclosed);
             Answer::Messages(2)
         }
-        Grouped::PointerFailed(failure) => {
+        Err(Fault::PointerFailed(failure)) => {
             report::report_pointer(work, messages, failure, source);
             Answer::Messages(2)
         }
@@ -122,10 +121,9 @@ fn read(
     ensures { HasRead list.now tree.old messages.old source version used result
         tree.new messages.new }
 {
-    let walked = walk(list, work, tree, n, used, version);
-    match walked {
-        Walked::Tree(nodes) => Answer::Tree(nodes),
-        Walked::GivesUp => { read_by_passes(list, tree, messages, work, n, source, version, used) }
+    match walk(list, work, tree, n, used, version) {
+        Some(nodes) => Answer::Tree(nodes),
+        None => read_by_passes(list, tree, messages, work, n, source, version, used),
     }
 }
 
@@ -140,7 +138,7 @@ pub fn parse(
     used_low: u64,
     used_high: u64,
     limit: u32,
-) -> Answer
+) -> Result<Answer, Refusal>
     ensures { HasParsed
         (call list.now tree.old messages.old work.old
         source_length version used_low used_high limit)
@@ -156,16 +154,11 @@ pub fn parse(
         work: work.len(),
         source: source_length,
     };
-    let accepted = accept(list, sizes, used, limit);
-    match accepted {
-        Accepted::Refused(number, place) => Answer::Refused(number, place),
-        Accepted::Tokens(n) => {
-            let source = source_length as u32;
-            let end = WORK_WORDS * n + WORK_WORDS;
-            let part = &mut work[..end];
-            let answered = read(list, tree, messages, part, n, source, version, used);
-            clear(work);
-            answered
-        }
-    }
+    let n = accept(list, sizes, used, limit)?;
+    let source = source_length as u32;
+    let end = WORK_WORDS * n + WORK_WORDS;
+    let part = &mut work[..end];
+    let answered = read(list, tree, messages, part, n, source, version, used);
+    clear(work);
+    Ok(answered)
 }

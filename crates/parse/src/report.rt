@@ -1,11 +1,11 @@
 // Message records from what a pass failed on, and from the roots that are left. A name is given as its operator number.
 // Leans on levels (failures), buffers, nodes, ops and words; specs/Records says which record a failure has.
 ghost use Rattle.std.specs.Prelude.{◌≡◌, ◌+◌, ◌*◌, ◌≤◌, length};
-ghost use Rattle.words.specs.Records.{laid_at};
+ghost use Rattle.words.specs.Records.{message_number, laid_at};
 ghost use Rattle.parse.specs.Records.{Within, span_record, name_record, host_at, math_record, open_record, mismatch_record, unclosed_record};
 ghost use Rattle.parse.specs.Records.{Named, record_for};
 ghost use Rattle.molang.specs.Message.{message_record, multiple_roots};
-ghost use Rattle.grouping.specs.declared.grouped.Grouped.TheVariants.{Failed, Mismatched, Unclosed as Unclosing, PointerFailed};
+ghost use Rattle.levels.specs.declared.failure.Fault.TheVariants.{Failed, Mismatched, Unclosed as Unclosing, PointerFailed};
 ghost use Rattle.parse.specs.Reports.{CanReport, Reported, CanReportTwo, TwoReported, CanMeasure, Measured, CanReportRoots};
 ghost use Rattle.parse.specs.Reports.{RootsReported};
 
@@ -14,31 +14,35 @@ use levels::failure::{Failure, Mismatch, Unclosed};
 use nodes::{children, slots};
 use ops::closer_of;
 use words::extent::{Extent, of_tree};
-use words::records::{Record, put};
-use words::{fields, records};
+use words::fields;
+use words::records::{Message, Record, put};
 
 // A message at the span from one slot's start to another's end. A failure names slots of the store (`Named`), here and up to `record_of`.
-fn spanning(work: &[u32], number: u32, from: u32, to: u32) -> Record
+fn spanning(work: &[u32], message: Message, from: u32, to: u32) -> Record
     requires { Within work.now from × Within work.now to }
-    ensures { result ≡ span_record work.now number from to }
+    ensures { result ≡ span_record work.now (message_number message) from to }
 {
-    Record::new(number, slots::start_of(work, from), slots::end_of(work, to))
+    Record::new(
+        message,
+        slots::start_of(work, from),
+        slots::end_of(work, to),
+    )
 }
 
 // A message at a slot's span, with no argument.
-fn at_slot(work: &[u32], number: u32, s: u32) -> Record
+fn at_slot(work: &[u32], message: Message, s: u32) -> Record
     requires { Within work.now s }
-    ensures { result ≡ span_record work.now number s s }
+    ensures { result ≡ span_record work.now (message_number message) s s }
 {
-    spanning(work, number, s, s)
+    spanning(work, message, s, s)
 }
 
 // A message over two slots that names the operator of a third.
-fn naming(work: &[u32], number: u32, from: u32, to: u32, named: u32) -> Record
+fn naming(work: &[u32], message: Message, from: u32, to: u32, named: u32) -> Record
     requires { Within work.now from × Within work.now to × Within work.now named }
-    ensures { result ≡ name_record work.now number from to named }
+    ensures { result ≡ name_record work.now (message_number message) from to named }
 {
-    spanning(work, number, from, to).naming(slots::operator_of(work, named), 0)
+    spanning(work, message, from, to).naming(slots::operator_of(work, named), 0)
 }
 
 // The payload value of a slot if it is a host math function's, else 0.
@@ -54,11 +58,11 @@ fn host_value(work: &[u32], s: u32) -> u32
 }
 
 // A message that names a math function.
-fn naming_math(work: &[u32], number: u32, s: u32) -> Record
+fn naming_math(work: &[u32], message: Message, s: u32) -> Record
     requires { Within work.now s }
-    ensures { result ≡ math_record work.now number s }
+    ensures { result ≡ math_record work.now (message_number message) s }
 {
-    at_slot(work, number, s).naming(slots::operator_of(work, s), host_value(work, s))
+    at_slot(work, message, s).naming(slots::operator_of(work, s), host_value(work, s))
 }
 
 // The section of an opener is not closed.
@@ -67,7 +71,7 @@ fn not_closed(work: &[u32], opener: u32) -> Record
     ensures { result ≡ open_record work.now opener }
 {
     let op = slots::operator_of(work, opener);
-    at_slot(work, records::SECTION_NOT_CLOSED, opener).naming(closer_of(op), op)
+    at_slot(work, Message::SectionNotClosed, opener).naming(closer_of(op), op)
 }
 
 // The first record of a closer that does not match.
@@ -76,7 +80,7 @@ fn mismatched(work: &[u32], m: Mismatch) -> Record
     ensures { result ≡ mismatch_record work.now m }
 {
     let op = slots::operator_of(work, m.opener);
-    spanning(work, records::CLOSING_MISMATCH, m.opener, m.closer)
+    spanning(work, Message::ClosingMismatch, m.opener, m.closer)
         .naming(m.start, op)
         .and(closer_of(op), slots::operator_of(work, m.closer), m.index)
 }
@@ -87,7 +91,7 @@ fn unclosed(work: &[u32], u: Unclosed) -> Record
     ensures { result ≡ unclosed_record work.now u }
 {
     let op = slots::operator_of(work, u.inner);
-    at_slot(work, records::NO_CLOSING_SYMBOL, u.inner)
+    at_slot(work, Message::NoClosingSymbol, u.inner)
         .naming(u.start, op)
         .and(closer_of(op), 0, 0)
 }
@@ -99,38 +103,38 @@ fn record_of(work: &[u32], failure: Failure, source: u32) -> Record
 {
     match failure {
         Failure::ComplexMustEndWithSemicolon(s) => {
-            at_slot(work, records::COMPLEX_MUST_END_WITH_SEMICOLON, s)
+            at_slot(work, Message::ComplexMustEndWithSemicolon, s)
         }
         Failure::ComplexWithoutTokens => {
-            Record::new(records::COMPLEX_MUST_END_WITH_SEMICOLON, 0, source)
+            Record::new(Message::ComplexMustEndWithSemicolon, 0, source)
         }
-        Failure::LeadingMemberAccessor(s) => at_slot(work, records::LEADING_MEMBER_ACCESSOR, s),
+        Failure::LeadingMemberAccessor(s) => at_slot(work, Message::LeadingMemberAccessor, s),
         Failure::EmptyParameterList(s, to) => {
-            naming(work, records::EMPTY_PARAMETER_LIST, s, to, s)
+            naming(work, Message::EmptyParameterList, s, to, s)
         }
-        Failure::MathAtEnd(s) => naming_math(work, records::MATH_AT_END, s),
+        Failure::MathAtEnd(s) => naming_math(work, Message::MathAtEnd, s),
         Failure::MathWithoutParenthesis(s) => {
-            naming_math(work, records::MATH_WITHOUT_PARENTHESIS, s)
+            naming_math(work, Message::MathWithoutParenthesis, s)
         }
-        Failure::LeadingSemicolon(s) => at_slot(work, records::LEADING_SEMICOLON, s),
-        Failure::EmptyArrayIndex(s, to) => spanning(work, records::EMPTY_ARRAY_INDEX, s, to),
-        Failure::BinaryAtEnd(s) => naming(work, records::BINARY_AT_END, s, s, s),
-        Failure::NegateWithoutOperand(s) => at_slot(work, records::NEGATE_WITHOUT_OPERAND, s),
-        Failure::NotWithoutOperand(s) => at_slot(work, records::NOT_WITHOUT_OPERAND, s),
+        Failure::LeadingSemicolon(s) => at_slot(work, Message::LeadingSemicolon, s),
+        Failure::EmptyArrayIndex(s, to) => spanning(work, Message::EmptyArrayIndex, s, to),
+        Failure::BinaryAtEnd(s) => naming(work, Message::BinaryAtEnd, s, s, s),
+        Failure::NegateWithoutOperand(s) => at_slot(work, Message::NegateWithoutOperand, s),
+        Failure::NotWithoutOperand(s) => at_slot(work, Message::NotWithoutOperand, s),
         Failure::UnknownOperation(s, before) => {
-            naming(work, records::UNKNOWN_OPERATION, s, s, before)
+            naming(work, Message::UnknownOperation, s, s, before)
         }
-        Failure::UnaryWithoutOperand(s) => naming(work, records::UNARY_WITHOUT_OPERAND, s, s, s),
+        Failure::UnaryWithoutOperand(s) => naming(work, Message::UnaryWithoutOperand, s, s, s),
         Failure::TernaryWithoutOperands(s) => {
-            naming(work, records::TERNARY_WITHOUT_OPERANDS, s, s, s)
+            naming(work, Message::TernaryWithoutOperands, s, s, s)
         }
     }
 }
 
 // Writes the record of a failure to the front of the message buffer. `fill` has what it and those below ask: `CanFill` says it by cases.
 pub fn report(work: &[u32], messages: &mut [u32], failure: Failure, source: u32)
-    requires { CanReport work.now messages.old source (Failed failure) }
-    ensures { Reported work.now messages.old source (Failed failure) messages.new }
+    requires { CanReport work.now messages.old source (Err (Failed failure)) }
+    ensures { Reported work.now messages.old source (Err (Failed failure)) messages.new }
 {
     put(messages, 0, record_of(work, failure, source));
 }
@@ -140,17 +144,13 @@ pub fn no_roots(messages: &mut [u32], at: usize, source: u32)
     requires { at + 8 ≤ length messages.old }
     ensures { messages.new ≡ laid_at at (message_record (multiple_roots 0 source 0)) messages.old }
 {
-    put(
-        messages,
-        at,
-        Record::new(records::MULTIPLE_ROOTS, 0, source),
-    );
+    put(messages, at, Record::new(Message::MultipleRoots, 0, source));
 }
 
 // Writes the record of a failed pointer pass, and that no root is left.
 pub fn report_pointer(work: &[u32], messages: &mut [u32], failure: Failure, source: u32)
-    requires { CanReport work.now messages.old source (PointerFailed failure) }
-    ensures { Reported work.now messages.old source (PointerFailed failure) messages.new }
+    requires { CanReport work.now messages.old source (Err (PointerFailed failure)) }
+    ensures { Reported work.now messages.old source (Err (PointerFailed failure)) messages.new }
 {
     report(work, messages, failure, source);
     no_roots(messages, fields::RECORD_WORDS, source);
@@ -158,8 +158,8 @@ pub fn report_pointer(work: &[u32], messages: &mut [u32], failure: Failure, sour
 
 // Writes the two records of a closer that does not match.
 pub fn report_mismatch(work: &[u32], messages: &mut [u32], m: Mismatch)
-    requires { CanReportTwo work.now messages.old (Mismatched m) }
-    ensures { TwoReported work.now messages.old (Mismatched m) messages.new }
+    requires { CanReportTwo work.now messages.old (Err (Mismatched m)) }
+    ensures { TwoReported work.now messages.old (Err (Mismatched m)) messages.new }
 {
     put(messages, 0, mismatched(work, m));
     put(messages, fields::RECORD_WORDS, not_closed(work, m.outer));
@@ -167,8 +167,8 @@ pub fn report_mismatch(work: &[u32], messages: &mut [u32], m: Mismatch)
 
 // Writes the two records of sections that are not closed.
 pub fn report_unclosed(work: &[u32], messages: &mut [u32], u: Unclosed)
-    requires { CanReportTwo work.now messages.old (Unclosing u) }
-    ensures { TwoReported work.now messages.old (Unclosing u) messages.new }
+    requires { CanReportTwo work.now messages.old (Err (Unclosing u)) }
+    ensures { TwoReported work.now messages.old (Err (Unclosing u)) messages.new }
 {
     put(messages, 0, unclosed(work, u));
     put(messages, fields::RECORD_WORDS, not_closed(work, u.outer));
@@ -199,6 +199,6 @@ pub fn report_roots(work: &mut [u32], messages: &mut [u32], head: u32, n: usize)
     put(
         messages,
         0,
-        Record::new(records::MULTIPLE_ROOTS, starts.start, ends.end).naming(roots, 0),
+        Record::new(Message::MultipleRoots, starts.start, ends.end).naming(roots, 0),
     );
 }

@@ -21,6 +21,7 @@ use Rattle.nodes.proofs.{Store.{back_keep, back-onto, onto-back}, Classes.{roots
 use Rattle.nodes.proofs.Trees.{one_out, leaf_first, owned-tree, owned-leaf, token-test}
 use Rattle.levels.specs.{Passes.{walk_of, moved_to}, Sides.{OpenArray}, declared.turns.Pass.TheVariants.{Arrays}, declared.turns.Turn.{Turn}}
 use Rattle.levels.specs.declared.turns.Turn.TheVariants.{Enter}
+use Rattle.std.specs.Prelude.{Option, None, Some, Ok, unwrap_or}
 use Rattle.passes.specs.Arrays.{Apart, CanGather, Gathered, Dec, CanRound, Rounded, CanLend, Lent, nothing, name, Indexed, opens}
 use Rattle.passes.proofs.ArrayChain.{dec-out}
 
@@ -209,27 +210,27 @@ module _ {W X : List ℕ} {a lo l : ℕ} {q : Token} {contents : Forest} (o : Op
 -- ---- `lend_name`, by its words
 
 module _ {W : List ℕ} {a b : ℕ} where
-  pub lent-no-child : (f : ℕ) → f ≡ first_at W a → f ≡ 0 → Lent W a b 0 W
+  pub lent-no-child : (f : ℕ) → f ≡ first_at W a → f ≡ 0 → Lent W a b None W
   lent-no-child f e z = nothing refl refl (inl (sym e ∙ z))
 
-  pub lent-no-name : (f : ℕ) (t : Bool) → f ≡ first_at W a → t ≡ is_token_at W f array_variable → t ≡ false → Lent W a b 0 W
+  pub lent-no-name : (f : ℕ) (t : Bool) → f ≡ first_at W a → t ≡ is_token_at W f array_variable → t ≡ false → Lent W a b None W
   lent-no-name f t e h z = nothing refl refl (inr (inl (ap (λ (x : ℕ). is_token_at W x array_variable) (sym e) ∙ sym h ∙ z)))
 
-  pub lent-no-index : (f n : ℕ) → f ≡ first_at W b → n ≡ op_at W f → n ≢ left_bracket → Lent W a b 0 W
+  pub lent-no-index : (f n : ℕ) → f ≡ first_at W b → n ≡ op_at W f → n ≢ left_bracket → Lent W a b None W
   lent-no-index f n e h z = nothing refl refl (inr (inr (λ y. z (h ∙ ap (λ (x : ℕ). op_at W x) e ∙ y))))
 
   pub lent-name : {W1 W' : List ℕ} (r f n rest : ℕ) (t : Bool) → r ≢ 0 → r ≡ first_at W a → t ≡ is_token_at W r array_variable → t ≡ true
       → f ≡ first_at W b → n ≡ op_at W f → n ≡ left_bracket
       → rest ≡ next_at W r → W1 ≡ set W (first_word a) rest → W' ≡ set W1 (slot_start r) (with_operator (operator_word_at W1 r) array)
-      → Lent W a b r W'
+      → Lent W a b (Some r) W'
   lent-name {W1} r f n rest t nz er et z ef en zn es e1 e2 =
-      name nz er (sym et ∙ z) (ap (λ (x : ℕ). op_at W x) (sym ef) ∙ sym en ∙ zn) (subst (λ (x : ℕ). W1 ≡ set W (first_word a) x) es e1) e2
+      name refl nz er (sym et ∙ z) (ap (λ (x : ℕ). op_at W x) (sym ef) ∙ sym en ∙ zn) (subst (λ (x : ℕ). W1 ≡ set W (first_word a) x) es e1) e2
 
 -- an index that is entered
-pub index-opens : {W W' : List ℕ} {v : Items} {b a lent : ℕ} {r : Turn} (v' : Items) → is_leaf_at W b ≡ false → Lent W a b lent W'
-    → v' ≡ moved_to v (v.read + 1) v.write
-    → r ≡ Enter (walk_of v' (Arrays a lent)) b → Indexed W v b a r W'
-index-opens {b = b} {a = a} {lent = lent} v' full w e er = opens full w (er ∙ ap (λ (x : Items). Enter (walk_of x (Arrays a lent)) b) e)
+pub index-opens : {W W' : List ℕ} {v : Items} {b a x : ℕ} {lent : Option ℕ} {r : Turn} (v' : Items) → is_leaf_at W b ≡ false
+    → Lent W a b lent W' → x ≡ unwrap_or lent 0 → v' ≡ moved_to v (v.read + 1) v.write
+    → r ≡ Enter (walk_of v' (Arrays a x)) b → Indexed W v b a (Ok r) W'
+index-opens v' full w ex e er = opens full w (ap Ok (rw (er, e, ex) refl))
 
 -- ---- what is lent
 
@@ -358,12 +359,18 @@ module _ {W W' X : List ℕ} {a b lo l n m r : ℕ} {q k : Token} {cs : Forest} 
             (links ds (next_at W d) other c.2),
       )
 
-  pub lent-to : {contents : Forest} → OpenArray W X a lo l q contents → Lent W a b r W' → LentTo W W' X a b lo l n r q cs contents
-  lent-to o (nothing z e why) =
-      none z e
+  pub lent-to : {x : Option ℕ} {contents : Forest} → r ≡ unwrap_or x 0 → OpenArray W X a lo l q contents → Lent W a b x W'
+      → LentTo W W' X a b lo l n r q cs contents
+  lent-to is o (nothing e z why) =
+      none (is ∙ ap (λ (y : Option ℕ). unwrap_or y 0) e) z
       (λ d. lends-not d q cs o.chain o.kids
       (⊎_elim (λ x. inl x) (λ x. inr (⊎_elim (λ y. inl y)
       (λ y. inr (starts-index cs full t ∙ ne_eqb (op_at W (first_at W b)) left_bracket y)) x)) why))
-  lent-to o (name nz er et ei e1 e2) =
-      lends o (starts-index cs full t ∙ eq-eqb (op_at W (first_at W b)) left_bracket ei) e1 e2
-      (last_name (subst (λ (x : ℕ). Chain W x o.cs) (sym er) o.chain) o.kids nz et)
+  lent-to is o (name {n = k} {W1 = W1} e nz er et ei e1 e2) =
+      let same : k ≡ r = sym (is ∙ ap (λ (y : Option ℕ). unwrap_or y 0) e) in
+      let last : r ≡ first_at W a = sym same ∙ er in
+      lends o (starts-index cs full t ∙ eq-eqb (op_at W (first_at W b)) left_bracket ei)
+      (subst (λ (y : ℕ). W1 ≡ set W (first_word a) (next_at W y)) same e1)
+      (subst (λ (y : ℕ). W' ≡ set W1 (slot_start y) (with_operator (operator_word_at W1 y) array)) same e2)
+      (last_name (subst (λ (x : ℕ). Chain W x o.cs) (sym last) o.chain) o.kids (λ z. nz (same ∙ z))
+      (subst (λ (y : ℕ). is_token_at W y array_variable ≡ true) same et))

@@ -18,7 +18,8 @@ use Rattle.levels.specs.{Passes.{walk_of, moved_to, operators, Runs, waits}, Ite
 use Rattle.levels.specs.Sides.{OpenArray, ArraySide, ArrayAgrees, Holds, Waits}
 use Rattle.levels.specs.{Turns.{Within, CanTurn, Turned, TurnTo, goes, enters, fails, afresh, lent, CanResume, Resumed}, Failures.{Tells}}
 use Rattle.levels.specs.{declared.failure.Failure.TheVariants.{EmptyArrayIndex}, declared.turns.Pass.TheVariants.{Arrays}}
-use Rattle.levels.specs.{declared.turns.Turn.{Turn}, declared.turns.Turn.TheVariants.{On, Enter, Fail}}
+use Rattle.levels.specs.{declared.turns.Turn.{Turn}, declared.turns.Turn.TheVariants.{On, Enter}}
+use Rattle.std.specs.Prelude.{None, Some, Ok, Err, unwrap_or}
 use Rattle.levels.proofs.Reading.{back-array-keep, ahead-keep, ahead-le, can-peek, NextTo, ended, differs, found, same-within}
 use Rattle.levels.proofs.{PassClasses.{runs-covers}, States.{sides-of}}
 use Rattle.passes.specs.TokenTurns.{AtItem, AtToken, unasked, Saying}
@@ -28,7 +29,7 @@ use Rattle.passes.proofs.ArrayLaws.{lent-indexed, flush}
 use Rattle.passes.proofs.ArrayGrowing.{name-open, can-gather, gathered-open, gathered-slot, gathered-word, gathered-kept, can-round}
 use Rattle.passes.proofs.ArrayGrowing.{rounded-tree, rounded-slot, rounded-word, rounded-kept, can-lend, LentTo, none, some, lent-to}
 use Rattle.passes.proofs.GatherLaws.{walk-node, walk-passed, LeftLevel, item-bounds, item-holds, kept-within, within-then, Stands}
-use Rattle.passes.proofs.{GatherLaws.{stands, Standing}, CallLaws.{next_of}}
+use Rattle.passes.proofs.{GatherLaws.{stands, Standing}, CallLaws.{next_of}, TurnLaws.{Step}}
 
 -- ---- the level, where no array waits
 
@@ -131,20 +132,21 @@ module _ {W X : List ℕ} {v : Items} {a b lo hi : ℕ} {d : Forest} {q : Token}
       (less : count (node k cs rest) ≤ count rest0)
       (fewer : size (node k cs rest) + count rest0 ≤ size rest0 + count (node k cs rest))
       (one : is_nil contents ≡ false → waits arrays s ≡ 1) where
-    index-empty : is_nil cs ≡ true → TurnTo arrays W X lo hi (walk_of v (Arrays z 0)) s rest0 (Fail (EmptyArrayIndex a b))
+    index-empty : is_nil cs ≡ true → TurnTo arrays W X lo hi (walk_of v (Arrays z 0)) s rest0 (Err (EmptyArrayIndex a b))
     unfolding is_nil
     index-empty e = go cs e i.tree same
       where
         go : (cs : Forest) → is_nil cs ≡ true → RepT W X b i.n i.m k cs
             → work arrays s rest0 ≡ work arrays (indexed d q contents) (node k cs rest)
-            → TurnTo arrays W X lo hi (walk_of v (Arrays z 0)) s rest0 (Fail (EmptyArrayIndex a b))
+            → TurnTo arrays W X lo hi (walk_of v (Arrays z 0)) s rest0 (Err (EmptyArrayIndex a b))
         go nil e t h =
             fails (Tells.empty_array_index i.grows.token t.token)
             (h ∙ array-stop (indexed d q contents) k nil rest _ (indexed-empty d q k (is-index k i.bracket) contents))
         go (node x xs y) e t h = absurd (true≢false (sym e))
 
     index-entered : {W' : List ℕ} (c : ℕ) → is_nil cs ≡ false → LentTo W W' X a b i.p i.l i.n c q cs contents
-        → TurnTo arrays W' X lo hi (walk_of v (Arrays z 0)) s rest0 (Enter (walk_of (moved_to v (v.read + 1) v.write) (Arrays a c)) b)
+        → TurnTo arrays W' X lo hi (walk_of v (Arrays z 0)) s rest0
+        (Ok (Enter (walk_of (moved_to v (v.read + 1) v.write) (Arrays a c)) b))
     unfolding count size waits begins array_level is_nil in_reading
     index-entered {W'} c full (none nought e next) =
         rw e
@@ -176,11 +178,11 @@ module _ {W X : List ℕ} {v : Items} {a b lo hi : ℕ} {d : Forest} {q : Token}
         (lent-indexed nil x cs starts))
         (omega arith) (omega arith) (omega arith) (omega arith)
 
-    pub index-turn : {W' : List ℕ} {r : Turn} → Indexed W v b a r W' → TurnTo arrays W' X lo hi (walk_of v (Arrays z 0)) s rest0 r
+    pub index-turn : {W' : List ℕ} {r : Step} → Indexed W v b a r W' → TurnTo arrays W' X lo hi (walk_of v (Arrays z 0)) s rest0 r
     index-turn (empty leafy e er) = rw (er, e) (index-empty (sym (leaf-test cs i.tree) ∙ leafy))
     index-turn (opens {lent = c} full w er) =
         let f = sym (leaf-test cs i.tree) ∙ full in
-        rw er (index-entered c f (lent-to i.apart i.tree f room i.grows w))
+        rw er (index-entered (unwrap_or c 0) f (lent-to i.apart i.tree f room refl i.grows w))
 
   lent-within : {W' : List ℕ} {c : ℕ} → LentTo W W' X a b i.p i.l i.n c q cs contents → Within W W' X lo hi v
   lent-within (none nought e next) = rw e same-within
@@ -194,9 +196,9 @@ module _ {W X : List ℕ} {v : Items} {a b lo hi : ℕ} {d : Forest} {q : Token}
         long = long;
       }
 
-  pub index-within : {W' : List ℕ} {r : Turn} → Indexed W v b a r W' → Within W W' X lo hi v
+  pub index-within : {W' : List ℕ} {r : Step} → Indexed W v b a r W' → Within W W' X lo hi v
   index-within (empty leafy e er) = rw e same-within
-  index-within (opens full w er) = lent-within (lent-to i.apart i.tree (sym (leaf-test cs i.tree) ∙ full) room i.grows w)
+  index-within (opens full w er) = lent-within (lent-to i.apart i.tree (sym (leaf-test cs i.tree) ∙ full) room refl i.grows w)
 
 -- ---- a name
 
@@ -204,18 +206,17 @@ not-index : (k : Token) → is_array_name k.op ≡ true → is_index k ≡ false
 not-index k e = no_index k (λ h. absurd (omega (arith, name-op k e)))
 
 -- no index follows
-starts_none : {W X : List ℕ} {v : Items} {lo hi c : ℕ} {rest : Forest} → c ≡ 0 → NextTo W X v lo hi left_bracket c rest
+starts_none : {W X : List ℕ} {v : Items} {lo hi : ℕ} {rest : Forest} → NextTo W X v lo hi left_bracket None rest
     → starts_with_index rest ≡ false
 unfolding starts_with_index
-starts_none z (ended x) = refl
-starts_none z (differs {k = k} x y) = no_index k y
-starts_none z (found x o pos low tree ahead) = absurd (omega arith)
+starts_none (ended x) = refl
+starts_none (differs {k = k} x y) = no_index k y
 
 name-alone : {W W' X : List ℕ} {v : Items} {b lo hi : ℕ} {d : Forest} {k : Token} {rest : Forest} → W' ≡ set W (v.base + v.write) b
     → AtItem W X v b lo hi d k nil rest
     → is_array_name k.op ≡ true → starts_with_index rest ≡ false
     → TurnTo arrays W' X lo hi (walk_of v (Arrays 0 0)) (unindexed d) (node k nil rest)
-    (On (walk_of (moved_to v v.read (v.write + 1)) (Arrays 0 0)))
+    (Ok (On (walk_of (moved_to v v.read (v.write + 1)) (Arrays 0 0))))
 unfolding count size waits flushed
 name-alone {d = d} {k = k} {rest = rest} s i p bare =
     goes {s' = unindexed (node k nil d)} (record { owner = refl; base = refl; len = refl; classes = refl }) (item-holds array-left i s refl)
@@ -228,11 +229,9 @@ data NameIndex (W X : List ℕ) (v : Items) (b c lo hi : ℕ) (d : Forest) (k : 
       → NameIndex W X v b c lo hi d k (node t ts rest)
 
 module _ {W W1 : List ℕ} {v : Items} {b : ℕ} (e : W1 ≡ set W (slot_start b) (with_operator (operator_word_at W b) array)) where
-  name-index : {X : List ℕ} {c lo m hi : ℕ} {d : Forest} {k : Token} {rest : Forest} → c ≢ 0 → (i : AtItem W X v b lo hi d k nil rest)
-      → i.m ≡ m → NextTo W X v m hi left_bracket c rest → NameIndex W1 X v b c lo hi d k rest
-  name-index n i em (ended x) = absurd (n refl)
-  name-index n i em (differs x y) = absurd (n refl)
-  name-index {X} n i em (found {a = p} {m = m} {k = t} {cs = ts} {rest = rest} x o pos low tree ahead) =
+  name-index : {X : List ℕ} {c lo m hi : ℕ} {d : Forest} {k : Token} {rest : Forest} → (i : AtItem W X v b lo hi d k nil rest)
+      → i.m ≡ m → NextTo W X v m hi left_bracket (Some c) rest → NameIndex W1 X v b c lo hi d k rest
+  name-index {X} i em (found {a = p} {m = m} {k = t} {cs = ts} {rest = rest} x o pos low tree ahead) =
       let bounds =
       item-bounds i in let beyond : b < p =
       omega arith in let below =
@@ -273,7 +272,7 @@ name-can : {W1 X : List ℕ} {v : Items} {b c lo hi : ℕ} {d : Forest} {k : Tok
     → CanIndex W1 v c b
 name-can (next i) = can-index i
 
-name-turn : {W1 W' X : List ℕ} {v : Items} {b c lo hi : ℕ} {d : Forest} {k : Token} {rest : Forest} {r : Turn} → is_array_name k.op ≡ true
+name-turn : {W1 W' X : List ℕ} {v : Items} {b c lo hi : ℕ} {d : Forest} {k : Token} {rest : Forest} {r : Step} → is_array_name k.op ≡ true
     → Indexed W1 v c b r W' → NameIndex W1 X v b c lo hi d k rest
     → TurnTo arrays W' X lo hi (walk_of v (Arrays 0 0)) (unindexed d) (node k nil rest) r
 unfolding count size is_nil starts_with_index
@@ -284,29 +283,31 @@ name-turn {d = d} {k = k} isname w (next {t = t} {ts = ts} {rest = rest} i) =
     ∙ lent-indexed d k (node t ts rest) starts)
     (omega arith) (omega arith) (λ h. absurd (true≢false h)) w
 
-name-after : {W1 W' X : List ℕ} {v : Items} {b c lo hi : ℕ} {d : Forest} {k : Token} {rest : Forest} {r : Turn} → Indexed W1 v c b r W'
+name-after : {W1 W' X : List ℕ} {v : Items} {b c lo hi : ℕ} {d : Forest} {k : Token} {rest : Forest} {r : Step} → Indexed W1 v c b r W'
     → NameIndex W1 X v b c lo hi d k rest → Within W1 W' X lo hi v
 name-after w (next i) = index-within i w
 
-module _ {W : List ℕ} {v : Items} {b : ℕ} (c : ℕ) (e : c ≡ next_if W v left_bracket) where
-  pub name-kept : (W' : List ℕ) (l : Items) (r : Turn) → c ≡ 0 → W' ≡ set W (v.base + v.write) b → l ≡ moved_to v v.read (v.write + 1)
+module _ {W : List ℕ} {v : Items} {b : ℕ} where
+  pub name-kept : None ≡ next_if W v left_bracket → (W' : List ℕ) (l : Items) (r : Turn)
+      → W' ≡ set W (v.base + v.write) b → l ≡ moved_to v v.read (v.write + 1)
       → r ≡ On (walk_of l (Arrays 0 0))
-      → NameTurned W v b r W'
-  name-kept W' l r z s el er =
+      → NameTurned W v b (Ok r) W'
+  name-kept e W' l r s el er =
       rw (er, el)
       (record {
-        to = λ g p fine. name-alone s g.item p (starts_none z (next_of left_bracket c e g.item.ahead));
+        to = λ g p fine. name-alone s g.item p (starts_none (next_of left_bracket None e g.item.ahead));
         within = λ g. kept-within W W' g.item s;
       })
 
-  module _ {W1 : List ℕ} (n : c ≢ 0) (s : W1 ≡ set W (slot_start b) (with_operator (operator_word_at W b) array)) where
+  module _ {W1 : List ℕ} (c : ℕ) (e : Some c ≡ next_if W v left_bracket)
+      (s : W1 ≡ set W (slot_start b) (with_operator (operator_word_at W b) array)) where
     at-index : (g : AtToken W v b) → NameIndex W1 g.X v b c g.lo g.hi g.d g.k g.rest
-    at-index g = name-index s n g.item refl (next_of left_bracket c e g.item.ahead)
+    at-index g = name-index s g.item refl (next_of left_bracket (Some c) e g.item.ahead)
 
     pub name-can-index : AtToken W v b → CanIndex W1 v c b
     name-can-index g = name-can (at-index g)
 
-    pub name-indexed : {W' : List ℕ} {r : Turn} → Indexed W1 v c b r W' → NameTurned W v b r W'
+    pub name-indexed : {W' : List ℕ} {r : Step} → Indexed W1 v c b r W' → NameTurned W v b r W'
     name-indexed w =
         record {
           to = λ g p fine. name-turn p w (at-index g);
@@ -335,13 +336,11 @@ data NextIndex (W X : List ℕ) (v : Items) (a c lo hi : ℕ) (d : Forest) (q : 
   next : {k : Token} {cs rest : Forest} → AtIndex W X v a c lo hi d q contents k cs rest
       → NextIndex W X v a c lo hi d q contents (node k cs rest)
 
-next-index : {W X : List ℕ} {v : Items} {a c lo hi p l m : ℕ} {d contents rest : Forest} {q : Token} → c ≢ 0
+next-index : {W X : List ℕ} {v : Items} {a c lo hi p l m : ℕ} {d contents rest : Forest} {q : Token}
     → BackArray W X v.base v.write lo p d → OpenArray W X a p l q contents → l ≤ m
-    → v.write ≤ v.read → slot_start hi ≤ v.base → v.base + v.len ≤ length W → NextTo W X v m hi left_bracket c rest
+    → v.write ≤ v.read → slot_start hi ≤ v.base → v.base + v.len ≤ length W → NextTo W X v m hi left_bracket (Some c) rest
     → NextIndex W X v a c lo hi d q contents rest
-next-index n done o mid behind below within (ended x) = absurd (n refl)
-next-index n done o mid behind below within (differs x y) = absurd (n refl)
-next-index {p = p} {l = l} n done o mid behind below within (found {a = a'} {m = m'} x op pos low tree ahead) =
+next-index {p = p} {l = l} done o mid behind below within (found {a = a'} {m = m'} x op pos low tree ahead) =
     NextIndex.next
     (record {
       p = p;
@@ -363,7 +362,7 @@ next-can : {W X : List ℕ} {v : Items} {a c lo hi : ℕ} {d contents rest : For
     → CanIndex W v c a
 next-can (NextIndex.next i) = can-index i
 
-next-turn : {W W' X : List ℕ} {v : Items} {a c lo hi : ℕ} {d contents rest : Forest} {q : Token} {r : Turn} → Indexed W v c a r W'
+next-turn : {W W' X : List ℕ} {v : Items} {a c lo hi : ℕ} {d contents rest : Forest} {q : Token} {r : Step} → Indexed W v c a r W'
     → NextIndex W X v a c lo hi d q contents rest
     → TurnTo arrays W' X lo hi (walk_of v (Arrays a 0)) (indexed d q contents) rest r × Within W W' X lo hi v
 next-turn {a = a} w (NextIndex.next i) = unfold waits in (index-turn i a refl (le_refl _) (le_refl _) (λ h. refl) w, index-within i w)
@@ -394,84 +393,83 @@ module _ {W : List ℕ} {v : Items} {a : ℕ} (n : a ≢ 0) where
       go : (X : List ℕ) (lo hi : ℕ) (s : Indexing) (rest : Forest) → Grows W X v a lo hi s rest → CanRound W a
       go X lo hi s rest (grows done o ahead mid behind agrees below within small) = can-round o (omega (arith, (ahead-le ahead).0))
 
-  module _ (c : ℕ) (e : c ≡ next_if W v left_bracket) where
-    module _ (nc : c ≢ 0) where
-      pub array-can-index : CanTurn W (walk_of v (Arrays a 0)) → CanIndex W v c a
-      array-can-index = by-array (λ κ X lo hi s rest. CanIndex W v c a) go
-        where
-          go : (X : List ℕ) (lo hi : ℕ) (s : Indexing) (rest : Forest) → Grows W X v a lo hi s rest → CanIndex W v c a
-          go X lo hi s rest (grows done o ahead mid behind agrees below within small) =
-              next-can (next-index nc done o mid behind below within (next_of left_bracket c e ahead))
+  module _ (c : ℕ) (e : Some c ≡ next_if W v left_bracket) where
+    pub array-can-index : CanTurn W (walk_of v (Arrays a 0)) → CanIndex W v c a
+    array-can-index = by-array (λ κ X lo hi s rest. CanIndex W v c a) go
+      where
+        go : (X : List ℕ) (lo hi : ℕ) (s : Indexing) (rest : Forest) → Grows W X v a lo hi s rest → CanIndex W v c a
+        go X lo hi s rest (grows done o ahead mid behind agrees below within small) =
+            next-can (next-index done o mid behind below within (next_of left_bracket (Some c) e ahead))
 
-      array-goes : {W' : List ℕ} {r : Turn} → Indexed W v c a r W' → (X : List ℕ) (lo hi : ℕ) (s : Indexing) (rest : Forest)
-          → Grows W X v a lo hi s rest
-          → TurnTo arrays W' X lo hi (walk_of v (Arrays a 0)) s rest r × Within W W' X lo hi v
-      array-goes w X lo hi s rest (grows done o ahead mid behind agrees below within small) =
-          next-turn w (next-index nc done o mid behind below within (next_of left_bracket c e ahead))
+    array-goes : {W' : List ℕ} {r : Step} → Indexed W v c a r W' → (X : List ℕ) (lo hi : ℕ) (s : Indexing) (rest : Forest)
+        → Grows W X v a lo hi s rest
+        → TurnTo arrays W' X lo hi (walk_of v (Arrays a 0)) s rest r × Within W W' X lo hi v
+    array-goes w X lo hi s rest (grows done o ahead mid behind agrees below within small) =
+        next-turn w (next-index done o mid behind below within (next_of left_bracket (Some c) e ahead))
 
-      pub array-indexed : {W' : List ℕ} {r : Turn} → Indexed W v c a r W' → Turned W (walk_of v (Arrays a 0)) r W'
-      array-indexed {W'} {r} w =
-          let all =
-          by-array (λ κ X lo hi s rest. TurnTo κ W' X lo hi (walk_of v (Arrays a 0)) s rest r × Within W W' X lo hi v) (array-goes w) in
-          record { to = λ g. (all g).0; within = λ g. (all g).1 }
+    pub array-indexed : {W' : List ℕ} {r : Step} → Indexed W v c a r W' → Turned W (walk_of v (Arrays a 0)) r W'
+    array-indexed {W'} {r} w =
+        let all =
+        by-array (λ κ X lo hi s rest. TurnTo κ W' X lo hi (walk_of v (Arrays a 0)) s rest r × Within W W' X lo hi v) (array-goes w) in
+        record { to = λ g. (all g).0; within = λ g. (all g).1 }
 
-    module _ (z : c ≡ 0) where
-      -- something was read
-      array_behind : {X : List ℕ} {m hi : ℕ} {rest : Forest} → (v.write < v.read) ⊎ (starts_with_index rest ≡ true)
-          → NextTo W X v m hi left_bracket c rest → v.write < v.read
-      array_behind (inl h) t = h
-      array_behind (inr h) t = absurd (true≢false (sym h ∙ starts_none z t))
+  module _ (e : None ≡ next_if W v left_bracket) where
+    -- something was read
+    array_behind : {X : List ℕ} {m hi : ℕ} {rest : Forest} → (v.write < v.read) ⊎ (starts_with_index rest ≡ true)
+        → NextTo W X v m hi left_bracket None rest → v.write < v.read
+    array_behind (inl h) t = h
+    array_behind (inr h) t = absurd (true≢false (sym h ∙ starts_none t))
 
-      pub array-room : CanTurn W (walk_of v (Arrays a 0)) → v.base + v.write < length W
-      array-room = by-array (λ κ X lo hi s rest. v.base + v.write < length W) go
-        where
-          go : (X : List ℕ) (lo hi : ℕ) (s : Indexing) (rest : Forest) → Grows W X v a lo hi s rest → v.base + v.write < length W
-          go X lo hi s rest (grows done o ahead mid behind agrees below within small) =
-              omega (arith, array_behind agrees (next_of left_bracket c e ahead), (ahead-le ahead).1)
+    pub array-room : CanTurn W (walk_of v (Arrays a 0)) → v.base + v.write < length W
+    array-room = by-array (λ κ X lo hi s rest. v.base + v.write < length W) go
+      where
+        go : (X : List ℕ) (lo hi : ℕ) (s : Indexing) (rest : Forest) → Grows W X v a lo hi s rest → v.base + v.write < length W
+        go X lo hi s rest (grows done o ahead mid behind agrees below within small) =
+            omega (arith, array_behind agrees (next_of left_bracket None e ahead), (ahead-le ahead).1)
 
-      array-closes : {W1 W' : List ℕ} → Rounded W a W1 → W' ≡ set W1 (v.base + v.write) a
-          → (X : List ℕ) (lo hi : ℕ) (s : Indexing) (rest : Forest) → Grows W X v a lo hi s rest
-          → TurnTo arrays W' X lo hi (walk_of v (Arrays a 0)) s rest (On (walk_of (moved_to v v.read (v.write + 1)) (Arrays 0 0)))
-          × Within W W' X lo hi v
-      unfolding waits flushed
-      array-closes {W1} {W'} w s' X lo hi s rest
-          (grows {d = d} {contents = contents} {q = q} {p = p} {l = l} {m = m} done o ahead mid behind agrees below within small) =
-          let nx = next_of left_bracket c e ahead in
-          let less =
-          array_behind agrees nx in let le = ahead-le ahead in let low = o.low in let high = o.high in let dl = back-le done.rep in
-          let fits : slot_start l ≤ length W = omega arith in
-          let slot = rounded-slot o fits w in
-          let word = rounded-word o fits w in
-          let i : AtItem W1 X v a lo hi d q (in_order contents) rest
-          = record {
-            a = p;
-            m = m;
-            done = back-array-keep W W1 (λ s u x y z g. slot s u z (inl (omega arith))) (λ j x y. word j (omega arith)) done;
-            tree = tree-widen (le_refl p) mid (rounded-tree o fits w);
-            ahead = ahead-keep W W1 (λ s u x y z g. slot s u z (inr (omega arith))) (λ j x y. word j (omega arith)) ahead;
-            behind = less;
-            below = below;
-            within = omega (arith, w.long);
-            small = omega (arith, w.long);
-          } in (
-            goes {s' = unindexed (node q (in_order contents) d)} (record { owner = refl; base = refl; len = refl; classes = refl })
-                (item-holds array-left i s' refl)
-                (flush (indexed d q contents) rest (starts_none z nx)) (omega arith) (omega arith) (omega arith),
-            within-then refl refl (record { kept = λ j f g. rounded-kept o fits w lo hi dl (omega arith) j f; long = w.long })
-                (kept-within W1 W' i s'),
-          )
+    array-closes : {W1 W' : List ℕ} → Rounded W a W1 → W' ≡ set W1 (v.base + v.write) a
+        → (X : List ℕ) (lo hi : ℕ) (s : Indexing) (rest : Forest) → Grows W X v a lo hi s rest
+        → TurnTo arrays W' X lo hi (walk_of v (Arrays a 0)) s rest (Ok (On (walk_of (moved_to v v.read (v.write + 1)) (Arrays 0 0))))
+        × Within W W' X lo hi v
+    unfolding waits flushed
+    array-closes {W1} {W'} w s' X lo hi s rest
+        (grows {d = d} {contents = contents} {q = q} {p = p} {l = l} {m = m} done o ahead mid behind agrees below within small) =
+        let nx = next_of left_bracket None e ahead in
+        let less =
+        array_behind agrees nx in let le = ahead-le ahead in let low = o.low in let high = o.high in let dl = back-le done.rep in
+        let fits : slot_start l ≤ length W = omega arith in
+        let slot = rounded-slot o fits w in
+        let word = rounded-word o fits w in
+        let i : AtItem W1 X v a lo hi d q (in_order contents) rest
+        = record {
+          a = p;
+          m = m;
+          done = back-array-keep W W1 (λ s u x y z g. slot s u z (inl (omega arith))) (λ j x y. word j (omega arith)) done;
+          tree = tree-widen (le_refl p) mid (rounded-tree o fits w);
+          ahead = ahead-keep W W1 (λ s u x y z g. slot s u z (inr (omega arith))) (λ j x y. word j (omega arith)) ahead;
+          behind = less;
+          below = below;
+          within = omega (arith, w.long);
+          small = omega (arith, w.long);
+        } in (
+          goes {s' = unindexed (node q (in_order contents) d)} (record { owner = refl; base = refl; len = refl; classes = refl })
+              (item-holds array-left i s' refl)
+              (flush (indexed d q contents) rest (starts_none nx)) (omega arith) (omega arith) (omega arith),
+          within-then refl refl (record { kept = λ j f g. rounded-kept o fits w lo hi dl (omega arith) j f; long = w.long })
+              (kept-within W1 W' i s'),
+        )
 
-      pub array-closed : {W1 : List ℕ} (W' : List ℕ) (l : Items) (r : Turn) → Rounded W a W1 → W' ≡ set W1 (v.base + v.write) a
-          → l ≡ moved_to v v.read (v.write + 1) → r ≡ On (walk_of l (Arrays 0 0))
-          → Turned W (walk_of v (Arrays a 0)) r W'
-      array-closed {W1} W' l r w s el er =
-          let all
-          =
-          by-array
-          (λ κ X lo hi s rest. TurnTo κ W' X lo hi (walk_of v (Arrays a 0)) s rest
-          (On (walk_of (moved_to v v.read (v.write + 1)) (Arrays 0 0))) × Within W W' X lo hi v)
-          (array-closes w s) in
-          rw (er, el) (record { to = λ g. (all g).0; within = λ g. (all g).1 })
+    pub array-closed : {W1 : List ℕ} (W' : List ℕ) (l : Items) (r : Turn) → Rounded W a W1 → W' ≡ set W1 (v.base + v.write) a
+        → l ≡ moved_to v v.read (v.write + 1) → r ≡ On (walk_of l (Arrays 0 0))
+        → Turned W (walk_of v (Arrays a 0)) (Ok r) W'
+    array-closed {W1} W' l r w s el er =
+        let all
+        =
+        by-array
+        (λ κ X lo hi s rest. TurnTo κ W' X lo hi (walk_of v (Arrays a 0)) s rest
+        (Ok (On (walk_of (moved_to v v.read (v.write + 1)) (Arrays 0 0)))) × Within W W' X lo hi v)
+        (array-closes w s) in
+        rw (er, el) (record { to = λ g. (all g).0; within = λ g. (all g).1 })
 
 -- ---- an item is taken back
 

@@ -18,7 +18,8 @@ use Rattle.levels.specs.{Passes.{walk_of, moved_to, Covers, Runs, level, waits},
 use Rattle.levels.specs.Sides.{LevelSide, all, operator, Holds, Waits}
 use Rattle.levels.specs.{Turns.{CanResume, Resumed, Within, afresh, TurnTo, goes, enters, fails}, Failures.{Tells}}
 use Rattle.levels.specs.{declared.failure.Failure.TheVariants.{BinaryAtEnd}, declared.turns.Pass.TheVariants.{Binary}}
-use Rattle.levels.specs.{declared.turns.Turn.{Turn}, declared.turns.Turn.TheVariants.{On, Enter, Fail}}
+use Rattle.levels.specs.{declared.turns.Turn.{Turn}, declared.turns.Turn.TheVariants.{On, Enter}}
+use Rattle.std.specs.Prelude.{Ok, Err}
 use Rattle.levels.proofs.Reading.{back-array-keep, ahead-keep, ahead-le, ahead-end, array-put, AheadTo, item, ahead-item, inner-tree}
 use Rattle.levels.proofs.{Reading.{tree_free, free-tree-below, same-within}, States.{sides-of}}
 use Rattle.passes.specs.TokenTurns.{AtItem, AtToken, LevelTurned, Saying}
@@ -410,7 +411,7 @@ again-at : {W X : List ℕ} {v : Items} {lo a hi m s : ℕ} {d : Forest} {k : To
     → shares (classes_at W (left_of W v)) classes.0 ≡ true
     → LeafFound W (left_of W v) classes.0 s → Last W X v lo a (left_of W v) d
     → AheadTo W X v.base v.read v.len m hi (wd W (v.base + v.read)) rest
-    → TurnTo (binary ops) W X lo hi (walk_of v (Binary classes 0)) (gathered d) (node k nil rest) (Fail (BinaryAtEnd s))
+    → TurnTo (binary ops) W X lo hi (walk_of v (Binary classes 0)) (gathered d) (node k nil rest) (Err (BinaryAtEnd s))
 unfolding is_nil
 again-at {W} {X} {v} {k = k} classes ops covers room p fine sh found (last {p = lp} {m = lm} {l = l} {ls = ls} {d = d} e back left h)
     (item {k = x} {cs = xs} {rest = rest} low t r) =
@@ -427,7 +428,7 @@ module _ {W : List ℕ} {v : Items} {b : ℕ} (classes : TokenClasses) (ops : Li
       → unfolded ops d ≡ none → inner_at W (wd W (v.base + v.read)) classes.0 ≡ true → {m : ℕ} → i.m ≡ m
       → AheadTo W X v.base v.read v.len m hi (wd W (v.base + v.read)) rest
       → TurnTo (binary ops) W X lo hi (walk_of v (Binary classes 0)) (gathered d) (node k nil rest)
-      (Enter (walk_of (moved_to v (v.read + 1) v.write) (Binary classes b)) (wd W (v.base + v.read)))
+      (Ok (Enter (walk_of (moved_to v (v.read + 1) v.write) (Binary classes b)) (wd W (v.base + v.read))))
   unfolding count size waits begins binary_level nothing
   right-enters {X} {lo} {hi} {d} {k} i p fine full clean inner em (item {a = n} {m = m'} {k = x} {cs = xs} {rest = rest} low t r) =
       let z =
@@ -449,7 +450,7 @@ module _ {W : List ℕ} {v : Items} {b : ℕ} (classes : TokenClasses) (ops : Li
       → {m : ℕ} → i.m ≡ m
       → AheadTo W X v.base v.read v.len m hi (wd W (v.base + v.read)) rest
       → TurnTo (binary ops) W' X lo hi (walk_of v (Binary classes 0)) (gathered d) (node k nil rest)
-      (On (walk_of (moved_to v (v.read + 1) v.write) (Binary classes 0)))
+      (Ok (On (walk_of (moved_to v (v.read + 1) v.write) (Binary classes 0))))
   unfolding count size waits
   right-folds {X = X} {lo} {hi} {d} {k} i p fine full clean inner w em (item {a = n} {m = m'} {k = x} {cs = xs} {rest = rest} low t r) =
       let behind = i.behind in
@@ -476,7 +477,7 @@ module _ {W : List ℕ} {v : Items} {b : ℕ} (classes : TokenClasses) (ops : Li
   -- the operator with both sides
   pub operated : {r : Turn} {W' : List ℕ} → 0 < v.write → v.read < v.len → shares (classes_at W (left_of W v)) classes.0 ≡ false
       → Operated W v b classes r W'
-      → LevelTurned ops classes W v b r W'
+      → LevelTurned ops classes W v b (Ok r) W'
   operated has more s (opens inner same er) =
       rw (er, same)
       (record {
@@ -500,7 +501,7 @@ module _ {W : List ℕ} {v : Items} {b : ℕ} (classes : TokenClasses) (ops : Li
       })
 
   -- nothing before it, or nothing after it
-  pub operator-begins : v.write ≡ 0 → LevelTurned ops classes W v b (Fail (BinaryAtEnd b)) W
+  pub operator-begins : v.write ≡ 0 → LevelTurned ops classes W v b (Err (BinaryAtEnd b)) W
   operator-begins z =
       record {
         to = λ g p fine.
@@ -510,7 +511,7 @@ module _ {W : List ℕ} {v : Items} {b : ℕ} (classes : TokenClasses) (ops : Li
         within = λ g. same-within;
       }
 
-  pub operator-ends : v.read ≡ v.len → LevelTurned ops classes W v b (Fail (BinaryAtEnd b)) W
+  pub operator-ends : v.read ≡ v.len → LevelTurned ops classes W v b (Err (BinaryAtEnd b)) W
   operator-ends e =
       record {
         to = λ g p fine.
@@ -522,7 +523,7 @@ module _ {W : List ℕ} {v : Items} {b : ℕ} (classes : TokenClasses) (ops : Li
 
   pub operator-fails : {s : ℕ} → 0 < v.write → v.read < v.len → shares (classes_at W (left_of W v)) classes.0 ≡ true
       → LeafFound W (left_of W v) classes.0 s
-      → LevelTurned ops classes W v b (Fail (BinaryAtEnd s)) W
+      → LevelTurned ops classes W v b (Err (BinaryAtEnd s)) W
   operator-fails has more sh found =
       record {
         to = λ g p fine.

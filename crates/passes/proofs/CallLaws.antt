@@ -18,7 +18,8 @@ use Rattle.levels.specs.{Passes.{walk_of, moved_to, classes_of, operators, Runs,
 use Rattle.levels.specs.{Sides.{GatherSide, all, Holds, AtTurn, InFrame}, Turns.{Within, lent_of, afresh, TurnTo, goes, enters, fails}}
 use Rattle.levels.specs.{Failures.{Tells}, declared.failure.Failure.TheVariants.{EmptyParameterList, MathAtEnd, MathWithoutParenthesis}}
 use Rattle.levels.specs.{declared.turns.Pass.{Pass}, declared.turns.Pass.TheVariants.{Calls, MathCalls}, declared.turns.Turn.{Turn}}
-use Rattle.levels.specs.declared.turns.Turn.TheVariants.{On, Enter, Fail}
+use Rattle.levels.specs.declared.turns.Turn.TheVariants.{On, Enter}
+use Rattle.std.{specs.Prelude.{Option, None, Some, Ok, Err, if◌then◌else◌}, proofs.lemmas.Option.{none-some, same_Some}}
 use Rattle.levels.proofs.Reading.{can-peek, unfree-leaf, tree_free, tree-unfree, unfree-tree, free-tree-below, NextTo, ended, differs}
 use Rattle.levels.proofs.{Reading.{found, next-to, same-within}, PassClasses.{runs-covers}, States.{sides-of}}
 use Rattle.passes.specs.{TokenTurns.{AtItem, AtToken, unasked, CallTurned, Saying}, Calls.{CanCall, Called, opens, stays}}
@@ -200,20 +201,20 @@ unfolding is_nil
 section-full kind t nil e h = absurd (true≢false (sym (unfree-leaf (is_call kind) t h) ∙ ap (is_call kind) e ∙ no_call kind))
 section-full kind t (node c cs r) e h = refl
 
-pick : (a b : Bool) (x c : ℕ) → c ≡ elim a [ true ↦ 0 | false ↦ elim b [ true ↦ x | false ↦ 0 ] ] → c ≢ 0 → (a ≡ false) × (x ≡ c)
-pick true b x c e n = absurd (n e)
-pick false true x c e n = (refl, sym e)
-pick false false x c e n = absurd (n e)
+pick : (a b : Bool) (x c : ℕ) → Some c ≡ (if a then None else (if b then Some x else None)) → (a ≡ false) × (x ≡ c)
+pick true b x c e = absurd (none-some c (sym e))
+pick false true x c e = (refl, sym (same_Some c x e))
+pick false false x c e = absurd (none-some c (sym e))
 
 -- where `next_if` finds an item, it is the next one
-pub next_word : (W : List ℕ) (v : Items) (op c : ℕ) → c ≡ next_if W v op → c ≢ 0 → (v.read ≢ v.len) × (wd W (v.base + v.read) ≡ c)
+pub next_word : (W : List ℕ) (v : Items) (op c : ℕ) → Some c ≡ next_if W v op → (v.read ≢ v.len) × (wd W (v.base + v.read) ≡ c)
 unfolding next_if
-next_word W v op c e n =
-    let z = pick (eqb v.read v.len) (eqb (op_at W (wd W (v.base + v.read))) op) (wd W (v.base + v.read)) c e n in
+next_word W v op c e =
+    let z = pick (eqb v.read v.len) (eqb (op_at W (wd W (v.base + v.read))) op) (wd W (v.base + v.read)) c e in
     (eqb-false v.read v.len z.0, z.1)
 
-pub can-call : {W : List ℕ} {v : Items} {b : ℕ} (op c : ℕ) → AtToken W v b → c ≡ next_if W v op → c ≢ 0 → CanCall W v b c
-can-call {W} {v} op c g e n = let z = next_word W v op c e n in record { token = g; left = (next-room g z.0).0; next = z.1 }
+pub can-call : {W : List ℕ} {v : Items} {b : ℕ} (op c : ℕ) → AtToken W v b → Some c ≡ next_if W v op → CanCall W v b c
+can-call {W} {v} op c g e = let z = next_word W v op c e in record { token = g; left = (next-room g z.0).0; next = z.1 }
 
 -- ---- a call with its section
 
@@ -231,7 +232,7 @@ module _ {kind : CallKind} {pass : Pass} (L : LeftLevel (calls kind) pass (is_ca
       → t.op ≡ left_parenthesis
       → shares (classes_at W' b) (classes_of pass) ≡ true → Attaching W W' X v b lo hi d k (node t ts rest)
       → TurnTo (calls kind) W' X lo hi (walk_of v pass) (gathered d) (node k nil (node t ts rest))
-      (Enter (walk_of (moved_to v (v.read + 1) v.write) pass) b)
+      (Ok (Enter (walk_of (moved_to v (v.read + 1) v.write) pass) b))
   unfolding count size waits is_nil begins call_level nothing
   section-entered {d = d} {k = k} {t = t} {ts = ts} {rest = rest} p o h (attached i x) =
       let below = unfree-tree (is_call kind) k (node t ts nil) refl (tree-unfree (classes_of pass) (is_call kind) L.covers i.tree h) in
@@ -246,7 +247,7 @@ module _ {kind : CallKind} {pass : Pass} (L : LeftLevel (calls kind) pass (is_ca
       → shares (classes_at W1 b) (classes_of pass) ≡ false → W' ≡ set W1 (v.base + v.write) b
       → Attaching W W1 X v b lo hi d k (node t ts rest)
       → TurnTo (calls kind) W' X lo hi (walk_of v pass) (gathered d) (node k nil (node t ts rest))
-      (On (walk_of (moved_to v (v.read + 1) (v.write + 1)) pass))
+      (Ok (On (walk_of (moved_to v (v.read + 1) (v.write + 1)) pass)))
   unfolding count size waits is_nil
   section-done {d = d} {k = k} {t = t} {ts = ts} {rest = rest} law h s (attached i x) =
       let clean = free-tree-below (is_call kind) k (node t ts nil) refl (tree_free (classes_of pass) (is_call kind) L.covers i.tree h) in
@@ -257,7 +258,7 @@ module _ {kind : CallKind} {pass : Pass} (L : LeftLevel (calls kind) pass (is_ca
       → AtItem W X v b lo hi d k nil (node t ts rest) → is_call kind k.op ≡ true → t.op ≡ left_parenthesis
       → (free (is_call kind) (node t ts nil) ≡ true → work (calls kind) (gathered d) (node k nil (node t ts rest))
       ≡ work (calls kind) (gathered (node k (node t ts nil) d)) rest)
-      → TurnTo (calls kind) W' X lo hi (walk_of v pass) (gathered d) (node k nil (node t ts rest)) r
+      → TurnTo (calls kind) W' X lo hi (walk_of v pass) (gathered d) (node k nil (node t ts rest)) (Ok r)
   called-to (opens a h er) i p o law = rw er (section-entered p o h (item-attached i e n a))
   called-to (stays a h s er) i p o law = rw er (section-done law h s (item-attached i e n a))
 
@@ -269,119 +270,113 @@ module _ {kind : CallKind} {pass : Pass} (L : LeftLevel (calls kind) pass (is_ca
 -- ---- a query's turn
 
 -- what `next_if` found
-pub next_of : {W X : List ℕ} {v : Items} {lo hi : ℕ} {rest : Forest} (op c : ℕ) → c ≡ next_if W v op
+pub next_of : {W X : List ℕ} {v : Items} {lo hi : ℕ} {rest : Forest} (op : ℕ) (c : Option ℕ) → c ≡ next_if W v op
     → Ahead W X v.base v.read v.len lo hi rest → NextTo W X v lo hi op c rest
-next_of {W} {X} {v} {lo} {hi} {rest} op c e a = subst (λ (x : ℕ). NextTo W X v lo hi op x rest) (sym e) (next-to v op a)
+next_of {W} {X} {v} {lo} {hi} {rest} op c e a = subst (λ (x : Option ℕ). NextTo W X v lo hi op x rest) (sym e) (next-to v op a)
 
-query-called : {W W' X : List ℕ} {v : Items} {b lo m hi : ℕ} {d : Forest} {k : Token} {rest : Forest} {r : Turn} (c : ℕ) → c ≢ 0
+query-called : {W W' X : List ℕ} {v : Items} {b lo m hi : ℕ} {d : Forest} {k : Token} {rest : Forest} {r : Turn} (c : ℕ)
     → is_leaf_at W c ≡ false → wd W (v.base + v.read) ≡ c → v.read < v.len
     → AtItem W X v b lo hi d k nil rest → is_call query_or_loop k.op ≡ true → Called W v b c Calls r W'
-    → NextTo W X v m hi left_parenthesis c rest
-    → TurnTo (calls query_or_loop) W' X lo hi (walk_of v Calls) (gathered d) (node k nil rest) r
-query-called c n leafy e l i p w (ended x) = absurd (n refl)
-query-called c n leafy e l i p w (differs x y) = absurd (n refl)
-query-called {d = d} {k = k} c n leafy e l i p w (found {k = t} {cs = ts} {rest = rest} x o pos low tree ahead) =
+    → NextTo W X v m hi left_parenthesis (Some c) rest
+    → TurnTo (calls query_or_loop) W' X lo hi (walk_of v Calls) (gathered d) (node k nil rest) (Ok r)
+query-called {d = d} {k = k} c leafy e l i p w (found {k = t} {cs = ts} {rest = rest} x o pos low tree ahead) =
     called-to query-level e l w i p o (section-stays query_or_loop d k t ts rest p (is-bracket t o) (sym (leaf-test ts tree) ∙ leafy))
 
 -- a query whose section is empty
-query-fails : {W X : List ℕ} {v : Items} {b lo m hi : ℕ} {d : Forest} {k : Token} {rest : Forest} (c : ℕ) → c ≢ 0 → is_leaf_at W c ≡ true
-    → AtItem W X v b lo hi d k nil rest → is_call query_or_loop k.op ≡ true → NextTo W X v m hi left_parenthesis c rest
-    → TurnTo (calls query_or_loop) W X lo hi (walk_of v Calls) (gathered d) (node k nil rest) (Fail (EmptyParameterList b c))
+query-fails : {W X : List ℕ} {v : Items} {b lo m hi : ℕ} {d : Forest} {k : Token} {rest : Forest} (c : ℕ) → is_leaf_at W c ≡ true
+    → AtItem W X v b lo hi d k nil rest → is_call query_or_loop k.op ≡ true → NextTo W X v m hi left_parenthesis (Some c) rest
+    → TurnTo (calls query_or_loop) W X lo hi (walk_of v Calls) (gathered d) (node k nil rest) (Err (EmptyParameterList b c))
 unfolding is_nil
-query-fails c n leafy i p (ended x) = absurd (n refl)
-query-fails c n leafy i p (differs x y) = absurd (n refl)
-query-fails {W} {X} {v} {b} {lo} {hi = hi} {d = d} {k = k} c n leafy i p
+query-fails {W} {X} {v} {b} {lo} {hi = hi} {d = d} {k = k} c leafy i p
     (found {a = a} {m = m} {k = t} {cs = ts} {rest = rest} x o pos low tree ahead) =
     go ts (sym (leaf-test ts tree) ∙ leafy) tree
   where
     go : (ts : Forest) → is_nil ts ≡ true → RepT W X c a m t ts
-        → TurnTo (calls query_or_loop) W X lo hi (walk_of v Calls) (gathered d) (node k nil (node t ts rest)) (Fail (EmptyParameterList b c))
+        → TurnTo (calls query_or_loop) W X lo hi (walk_of v Calls) (gathered d) (node k nil (node t ts rest)) (Err (EmptyParameterList b c))
     go nil z tree = fails (Tells.empty_parameter_list i.tree.token tree.token) (query-empty d k t rest p (is-bracket t o))
     go (node y ys s) z tree = absurd (true≢false (sym z))
 
 -- a query without a section
-query-keeps : {W W' X : List ℕ} {v : Items} {b lo m hi : ℕ} {d : Forest} {k : Token} {rest : Forest} (c : ℕ) → c ≡ 0
+query-keeps : {W W' X : List ℕ} {v : Items} {b lo m hi : ℕ} {d : Forest} {k : Token} {rest : Forest}
     → W' ≡ set W (v.base + v.write) b
-    → AtItem W X v b lo hi d k nil rest → is_call query_or_loop k.op ≡ true → NextTo W X v m hi left_parenthesis c rest
+    → AtItem W X v b lo hi d k nil rest → is_call query_or_loop k.op ≡ true → NextTo W X v m hi left_parenthesis None rest
     → TurnTo (calls query_or_loop) W' X lo hi (walk_of v Calls) (gathered d) (node k nil rest)
-    (On (walk_of (moved_to v v.read (v.write + 1)) Calls))
+    (Ok (On (walk_of (moved_to v v.read (v.write + 1)) Calls)))
 unfolding count size waits
-query-keeps {d = d} {k = k} c z s i p (ended x) =
+query-keeps {d = d} {k = k} s i p (ended x) =
     goes {s' = gathered (node k nil d)} (record { owner = refl; base = refl; len = refl; classes = refl }) (item-holds query-level i s refl)
     (query-last d k p) (omega arith) (omega arith) (omega arith)
-query-keeps {d = d} {k = k} c z s i p (differs {k = t} {cs = ts} {rest = rest} x y) =
+query-keeps {d = d} {k = k} s i p (differs {k = t} {cs = ts} {rest = rest} x y) =
     goes {s' = gathered (node k nil d)} (record { owner = refl; base = refl; len = refl; classes = refl }) (item-holds query-level i s refl)
     (query-alone d k t ts rest p (no-bracket t y)) (omega arith) (omega arith) (omega arith)
-query-keeps c z s i p (found x o pos low tree ahead) = absurd (omega arith)
 
-module _ {W : List ℕ} {v : Items} {b : ℕ} (c : ℕ) (e : c ≡ next_if W v left_parenthesis) where
-  pub query-on : (W' : List ℕ) (l : Items) (r : Turn) → c ≡ 0 → W' ≡ set W (v.base + v.write) b → l ≡ moved_to v v.read (v.write + 1)
+module _ {W : List ℕ} {v : Items} {b : ℕ} where
+  pub query-on : None ≡ next_if W v left_parenthesis → (W' : List ℕ) (l : Items) (r : Turn)
+      → W' ≡ set W (v.base + v.write) b → l ≡ moved_to v v.read (v.write + 1)
       → r ≡ On (walk_of l Calls)
-      → CallTurned query_or_loop Calls W v b r W'
-  query-on W' l r z s el er =
+      → CallTurned query_or_loop Calls W v b (Ok r) W'
+  query-on e W' l r s el er =
       rw (er, el)
       (record {
-        to = λ g p fine. query-keeps c z s g.item p (next_of left_parenthesis c e g.item.ahead);
+        to = λ g p fine. query-keeps s g.item p (next_of left_parenthesis None e g.item.ahead);
         within = λ g. kept-within W W' g.item s;
       })
 
-  pub query-failed : c ≢ 0 → is_leaf_at W c ≡ true → CallTurned query_or_loop Calls W v b (Fail (EmptyParameterList b c)) W
-  query-failed n leafy =
-      record {
-        to = λ g p fine. query-fails c n leafy g.item p (next_of left_parenthesis c e g.item.ahead);
-        within = λ g. same-within;
-      }
+  module _ (c : ℕ) (e : Some c ≡ next_if W v left_parenthesis) where
+    pub query-failed : is_leaf_at W c ≡ true → CallTurned query_or_loop Calls W v b (Err (EmptyParameterList b c)) W
+    query-failed leafy =
+        record {
+          to = λ g p fine. query-fails c leafy g.item p (next_of left_parenthesis (Some c) e g.item.ahead);
+          within = λ g. same-within;
+        }
 
-  pub query-calls : {r : Turn} {W' : List ℕ} → c ≢ 0 → is_leaf_at W c ≡ false → Called W v b c Calls r W'
-      → CallTurned query_or_loop Calls W v b r W'
-  query-calls n leafy w =
-      let z = next_word W v left_parenthesis c e n in
-      record {
-        to = λ g p fine. query-called c n leafy z.1 (next-room g z.0).0 g.item p w (next_of left_parenthesis c e g.item.ahead);
-        within = λ g. called-within query-level z.1 (next-room g z.0).0 w g.item;
-      }
+    pub query-calls : {r : Turn} {W' : List ℕ} → is_leaf_at W c ≡ false → Called W v b c Calls r W'
+        → CallTurned query_or_loop Calls W v b (Ok r) W'
+    query-calls leafy w =
+        let z = next_word W v left_parenthesis c e in
+        record {
+          to = λ g p fine. query-called c leafy z.1 (next-room g z.0).0 g.item p w (next_of left_parenthesis (Some c) e g.item.ahead);
+          within = λ g. called-within query-level z.1 (next-room g z.0).0 w g.item;
+        }
 
 -- ---- a math call's turn
 
-math-called : {W W' X : List ℕ} {v : Items} {b lo m hi : ℕ} {d : Forest} {k : Token} {rest : Forest} {r : Turn} (c : ℕ) → c ≢ 0
+math-called : {W W' X : List ℕ} {v : Items} {b lo m hi : ℕ} {d : Forest} {k : Token} {rest : Forest} {r : Turn} (c : ℕ)
     → wd W (v.base + v.read) ≡ c → v.read < v.len
     → AtItem W X v b lo hi d k nil rest → is_call math k.op ≡ true → Called W v b c MathCalls r W'
-    → NextTo W X v m hi left_parenthesis c rest
-    → TurnTo (calls math) W' X lo hi (walk_of v MathCalls) (gathered d) (node k nil rest) r
-math-called c n e l i p w (ended x) = absurd (n refl)
-math-called c n e l i p w (differs x y) = absurd (n refl)
-math-called {d = d} {k = k} c n e l i p w (found {k = t} {cs = ts} {rest = rest} x o pos low tree ahead) =
+    → NextTo W X v m hi left_parenthesis (Some c) rest
+    → TurnTo (calls math) W' X lo hi (walk_of v MathCalls) (gathered d) (node k nil rest) (Ok r)
+math-called {d = d} {k = k} c e l i p w (found {k = t} {cs = ts} {rest = rest} x o pos low tree ahead) =
     called-to math-level e l w i p o (math-stays d k t ts rest p (is-bracket t o))
 
-math-ends : {W X : List ℕ} {v : Items} {b lo m hi : ℕ} {d : Forest} {k : Token} {rest : Forest} (c : ℕ) → c ≡ 0 → v.read ≡ v.len
-    → AtItem W X v b lo hi d k nil rest → is_call math k.op ≡ true → NextTo W X v m hi left_parenthesis c rest
-    → TurnTo (calls math) W X lo hi (walk_of v MathCalls) (gathered d) (node k nil rest) (Fail (MathAtEnd b))
-math-ends {d = d} {k = k} c z l i p (ended x) = fails (Tells.math_at_end i.tree.token) (math-last d k p)
-math-ends c z l i p (differs x y) = absurd (omega arith)
-math-ends c z l i p (found x o pos low tree ahead) = absurd (omega arith)
+math-ends : {W X : List ℕ} {v : Items} {b lo m hi : ℕ} {d : Forest} {k : Token} {rest : Forest} → v.read ≡ v.len
+    → AtItem W X v b lo hi d k nil rest → is_call math k.op ≡ true → NextTo W X v m hi left_parenthesis None rest
+    → TurnTo (calls math) W X lo hi (walk_of v MathCalls) (gathered d) (node k nil rest) (Err (MathAtEnd b))
+math-ends {d = d} {k = k} l i p (ended x) = fails (Tells.math_at_end i.tree.token) (math-last d k p)
+math-ends l i p (differs x y) = absurd (omega arith)
 
-math-fails : {W X : List ℕ} {v : Items} {b lo m hi : ℕ} {d : Forest} {k : Token} {rest : Forest} (c : ℕ) → c ≡ 0 → v.read ≢ v.len
-    → AtItem W X v b lo hi d k nil rest → is_call math k.op ≡ true → NextTo W X v m hi left_parenthesis c rest
-    → TurnTo (calls math) W X lo hi (walk_of v MathCalls) (gathered d) (node k nil rest) (Fail (MathWithoutParenthesis b))
-math-fails c z l i p (ended x) = absurd (l x)
-math-fails {d = d} {k = k} c z l i p (differs {k = t} {cs = ts} {rest = rest} x y) =
+math-fails : {W X : List ℕ} {v : Items} {b lo m hi : ℕ} {d : Forest} {k : Token} {rest : Forest} → v.read ≢ v.len
+    → AtItem W X v b lo hi d k nil rest → is_call math k.op ≡ true → NextTo W X v m hi left_parenthesis None rest
+    → TurnTo (calls math) W X lo hi (walk_of v MathCalls) (gathered d) (node k nil rest) (Err (MathWithoutParenthesis b))
+math-fails l i p (ended x) = absurd (l x)
+math-fails {d = d} {k = k} l i p (differs {k = t} {cs = ts} {rest = rest} x y) =
     fails (Tells.math_without_parenthesis i.tree.token) (math-lacks d k t ts rest p (no-bracket t y))
-math-fails c z l i p (found x o pos low tree ahead) = absurd (omega arith)
 
-module _ {W : List ℕ} {v : Items} {b : ℕ} (c : ℕ) (e : c ≡ next_if W v left_parenthesis) where
-  pub math-ended : c ≡ 0 → v.read ≡ v.len → CallTurned math MathCalls W v b (Fail (MathAtEnd b)) W
-  math-ended z l =
-      record { to = λ g p fine. math-ends c z l g.item p (next_of left_parenthesis c e g.item.ahead); within = λ g. same-within }
+module _ {W : List ℕ} {v : Items} {b : ℕ} where
+  pub math-ended : None ≡ next_if W v left_parenthesis → v.read ≡ v.len → CallTurned math MathCalls W v b (Err (MathAtEnd b)) W
+  math-ended e l =
+      record { to = λ g p fine. math-ends l g.item p (next_of left_parenthesis None e g.item.ahead); within = λ g. same-within }
 
-  pub math-failed : c ≡ 0 → v.read ≢ v.len → CallTurned math MathCalls W v b (Fail (MathWithoutParenthesis b)) W
-  math-failed z l =
-      record { to = λ g p fine. math-fails c z l g.item p (next_of left_parenthesis c e g.item.ahead); within = λ g. same-within }
+  pub math-failed : None ≡ next_if W v left_parenthesis → v.read ≢ v.len → CallTurned math MathCalls W v b (Err (MathWithoutParenthesis b)) W
+  math-failed e l =
+      record { to = λ g p fine. math-fails l g.item p (next_of left_parenthesis None e g.item.ahead); within = λ g. same-within }
 
-  pub math-calls : {r : Turn} {W' : List ℕ} → c ≢ 0 → Called W v b c MathCalls r W' → CallTurned math MathCalls W v b r W'
-  math-calls n w =
-      let z = next_word W v left_parenthesis c e n in
+  pub math-calls : {r : Turn} {W' : List ℕ} (c : ℕ) → Some c ≡ next_if W v left_parenthesis → Called W v b c MathCalls r W'
+      → CallTurned math MathCalls W v b (Ok r) W'
+  math-calls c e w =
+      let z = next_word W v left_parenthesis c e in
       record {
-        to = λ g p fine. math-called c n z.1 (next-room g z.0).0 g.item p w (next_of left_parenthesis c e g.item.ahead);
+        to = λ g p fine. math-called c z.1 (next-room g z.0).0 g.item p w (next_of left_parenthesis (Some c) e g.item.ahead);
         within = λ g. called-within math-level z.1 (next-room g z.0).0 w g.item;
       }
 

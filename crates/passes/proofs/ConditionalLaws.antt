@@ -1,6 +1,6 @@
 -- The conditional pass before its fold: an item goes to the gathered ones as it is, or is entered; a list without a `?` and a `:` is left
 -- as it is. The loop of `step`.
-use Prim.Native.Nat.{ℕ, suc, ◌+◌, ◌-◌, ◌^◌, ◌≤◌, ◌<◌}
+use Prim.Native.Nat.{ℕ, suc, ◌+◌, ◌^◌, ◌≤◌, ◌<◌}
 use mathlib.Core.{Path.{◌≡◌, refl, sym, ap, ◌∙◌, subst}, Bool.{Bool, true, false, true≢false}, List.{List}}
 use native.Mathlib.{Omega.{arith}, Nat.{le_refl}}
 use lib.ListN.{length}
@@ -17,7 +17,8 @@ use Rattle.levels.{specs.declared.turns.Pass.TheVariants.{Conditional}, specs.de
 use Rattle.levels.{specs.declared.turns.Turn.TheVariants.{Enter, Over}, proofs.PassClasses.{runs-covers}}
 use Rattle.levels.proofs.Reading.{AheadTo, item, ahead-item, ahead-end, ahead-le, array-put, tree_free, tree-unfree, unfree-leaf}
 use Rattle.levels.{proofs.Reading.{same-within}, proofs.States.{sides-of}}
-use Rattle.passes.proofs.GatherLaws.{walk-node, walk-over}
+use Rattle.std.specs.Prelude.{Ok}
+use Rattle.passes.proofs.{GatherLaws.{walk-node, walk-over}, TurnLaws.{Step}}
 
 -- ---- one item
 
@@ -183,7 +184,7 @@ enter-item : {W : List ℕ} {v : Items} {tokens : ℕ} {g : CanGather W v tokens
     → walk conditional_level g.d g.rest ≡ walk conditional_level s.d (node k cs rest)
     → count (node k cs rest) ≤ count g.rest → size (node k cs rest) + count g.rest ≤ size g.rest + count (node k cs rest)
     → TurnTo conditional W g.X g.lo g.hi (walk_of v (Conditional tokens)) g.d g.rest
-    (Enter (walk_of (moved_to v (read + 1) read) (Conditional seen)) b)
+    (Ok (Enter (walk_of (moved_to v (read + 1) read) (Conditional seen)) b))
 unfolding work waits begins in_reading takes through conditional_level count size is_nil
 enter-item s k nil rest n low t r e c z = absurd (true≢false n)
 enter-item {W} {v} {tokens} {g} {read} {seen} {a} {m} {b} s k (node x xs y) rest n low t r e c z =
@@ -282,21 +283,21 @@ module _ {W : List ℕ} {v : Items} {tokens : ℕ} {g : CanGather W v tokens} {r
   -- a node with tokens below it
   gather-enter : is_leaf_at W (wd W (v.base + read)) ≡ false
       → TurnTo conditional W g.X g.lo g.hi (walk_of v (Conditional tokens)) g.d g.rest
-      (Enter (walk_of (moved_to v (read + 1) read) (Conditional seen)) (wd W (v.base + read)))
+      (Ok (Enter (walk_of (moved_to v (read + 1) read) (Conditional seen)) (wd W (v.base + read))))
   gather-enter leafy = go s.same s.fewer s.smaller (ahead-item (wd W (v.base + read)) refl h s.list.unread)
     where
       go : {rest : Forest} → walk conditional_level g.d g.rest ≡ walk conditional_level s.d rest → count rest ≤ count g.rest
           → size rest + count g.rest ≤ size g.rest + count rest
           → AheadTo W g.X v.base read v.len s.m g.hi (wd W (v.base + read)) rest
           → TurnTo conditional W g.X g.lo g.hi (walk_of v (Conditional tokens)) g.d g.rest
-          (Enter (walk_of (moved_to v (read + 1) read) (Conditional seen)) (wd W (v.base + read)))
+          (Ok (Enter (walk_of (moved_to v (read + 1) read) (Conditional seen)) (wd W (v.base + read))))
       go e c z (item {k = k} {cs = cs} {rest = rest} low t r) = enter-item s k cs rest (sym (leaf-test cs t) ∙ leafy) low t r e c z
 
 -- every item is read
 gather-over : {W : List ℕ} {v : Items} {tokens : ℕ} {g : CanGather W v tokens} {read seen : ℕ} → GatherAt W v tokens g read seen
     → v.len ≤ read
     → TurnTo conditional W g.X g.lo g.hi (walk_of v (Conditional tokens)) g.d g.rest
-    (Over (walk_of (moved_to v read read) (Conditional seen)))
+    (Ok (Over (walk_of (moved_to v read read) (Conditional seen))))
 unfolding work waits
 gather-over {W} {v} {tokens} {g} {read} {seen} s h =
     let over = ahead-end s.rest h s.list.unread in
@@ -327,7 +328,7 @@ module _ {W : List ℕ} {v : Items} {tokens read seen : ℕ} (s : Gathering W v 
 
 -- ---- what `step` ensures
 
-turned_by : {W : List ℕ} {v : Items} {tokens : ℕ} {t : Turn}
+turned_by : {W : List ℕ} {v : Items} {tokens : ℕ} {t : Step}
     → ((g : CanGather W v tokens) → TurnTo conditional W g.X g.lo g.hi (walk_of v (Conditional tokens)) g.d g.rest t)
     → Turned W (walk_of v (Conditional tokens)) t W
 turned_by {W} {v} {tokens} {t} f =
@@ -350,12 +351,12 @@ turned_by {W} {v} {tokens} {t} f =
     }
 
 module _ {W : List ℕ} {v : Items} {tokens read seen : ℕ} {t : Turn} (s : Gathering W v tokens read seen) where
-  pub step-enter : read < v.len → is_leaf_at W (wd W (v.base + read)) ≡ false → (v' : Items) → v' ≡ moved_to v (read + 1) (read + 1 - 1)
-      → t ≡ Enter (walk_of v' (Conditional seen)) (wd W (v.base + read)) → Turned W (walk_of v (Conditional tokens)) t W
-  step-enter h leafy v' ev et =
-      let back : read + 1 - 1 ≡ read = omega arith in
-      rw (et, ev, back) (turned_by (λ g. gather-enter (s.at g) h leafy))
+  pub step-enter : read < v.len → is_leaf_at W (wd W (v.base + read)) ≡ false → (v' : Items) → v' ≡ moved_to v (read + 1) read
+      → t ≡ Enter (walk_of v' (Conditional seen)) (wd W (v.base + read)) → Turned W (walk_of v (Conditional tokens)) (Ok t) W
+  step-enter h leafy v' ev et = rw (et, ev) (turned_by (λ g. gather-enter (s.at g) h leafy))
 
-  pub step-over : v.len ≤ read → (v' : Items) → v' ≡ moved_to v read read → t ≡ Over (walk_of v' (Conditional seen))
-      → Turned W (walk_of v (Conditional tokens)) t W
-  step-over h v' ev et = rw (et, ev) (turned_by (λ g. gather-over (s.at g) h))
+  pub step-over : v.len ≤ read → (v' : Items) → v' ≡ moved_to v v.len v.len → t ≡ Over (walk_of v' (Conditional seen))
+      → Turned W (walk_of v (Conditional tokens)) (Ok t) W
+  step-over h v' ev et =
+      let end : v.len ≡ read = omega (arith, s.within) in
+      rw (et, ev ∙ ap (λ (x : ℕ). moved_to v x x) end) (turned_by (λ g. gather-over (s.at g) h))

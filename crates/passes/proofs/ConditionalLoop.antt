@@ -9,7 +9,8 @@ use Rattle.nodes.specs.Store.{wd, slot_start, RepT, ends, Kept}
 use Rattle.nodes.proofs.{Runs.{set_other, set_long}, Store.{rep-lower, back-le, back_count}, Trees.{gathered-array}, Keeping.{kept_then}}
 use Rattle.levels.specs.Items.{BackArray, Ahead}
 use Rattle.passes.specs.{Unary.{RightList}, Conditional.{scan_at, CanScan, ScanTo, CanFoldNext, FoldedNext, CanFold, FoldedAll}}
-use Rattle.passes.specs.declared.conditional.Scan.{Scan}
+use Rattle.nodes.specs.declared.frames.List.{List as Items}
+use Rattle.levels.specs.Passes.{moved_to}
 use Rattle.passes.proofs.UnaryRight.{LastUnread, last, unread-last, unread-none, ahead-cons}
 use Rattle.passes.proofs.ConditionalFold.{LastTwo, two, last-two, KeptTo, kept, keep-last}
 
@@ -92,8 +93,9 @@ pub record ScanningAt (W : List ℕ) (base len : ℕ) (g : CanFold W base len) (
   pub to : ScanTo Z g.X g.lo g.hi base len L R left right
   pub kept : Kept W Z g.X g.lo g.hi base (base + len)
 
-pub record Scanning (W : List ℕ) (base len : ℕ) (Z : List ℕ) (left right : ℕ) : Type 0 where
-  pub at : (g : CanFold W base len) → ScanningAt W base len g Z left right
+pub record Scanning (W : List ℕ) (v : Items) (Z : List ℕ) (s : Items) : Type 0 where
+  pub at : (g : CanFold W v.base v.len) → ScanningAt W v.base v.len g Z s.read s.write
+  pub moved : s ≡ moved_to v s.read s.write
   pub long : length Z ≡ length W
 
 abbrev scanning : {W : List ℕ} {base len : ℕ} {g : CanFold W base len} {Z : List ℕ} {left right : ℕ} → ScanningAt W base len g Z left right
@@ -112,40 +114,48 @@ scanning {g = g} s =
       full = s.to.full;
     }
 
-pub scan-start : {W : List ℕ} {base len : ℕ} → 3 ≤ len → Scanning W base len W (len - 1) (len - 1)
-scan-start {W} {base} {len} h = record { at = λ g. go g (scan_begins g.items h g.below g.within g.small); long = refl }
+pub scan-start : {W : List ℕ} {v : Items} (s : Items) → s ≡ moved_to v (v.len - 1) (v.len - 1) → 3 ≤ v.len → Scanning W v W s
+scan-start {W} {v} s e h =
+    rw e (record { at = λ g. go g (scan_begins g.items h g.below g.within g.small); moved = refl; long = refl })
   where
-    go : (g : CanFold W base len) → BeganWith W g.X g.lo g.hi base len g.d → ScanningAt W base len g W (len - 1) (len - 1)
+    go : (g : CanFold W v.base v.len) → BeganWith W g.X g.lo g.hi v.base v.len g.d
+        → ScanningAt W v.base v.len g W (v.len - 1) (v.len - 1)
     go g (began {L = L} {R = R} {e = e} list same) =
         record {
           L = L;
           R = R;
           same = same;
-          to = record { l = e; m = e; L' = L; R' = R; list = list; same = refl; behind = le_refl (len - 1); full = omega arith };
+          to = record { l = e; m = e; L' = L; R' = R; list = list; same = refl; behind = le_refl (v.len - 1); full = omega arith };
           kept = λ j f o. refl;
         }
 
-module _ {W : List ℕ} {base len : ℕ} {Z : List ℕ} {left right : ℕ} (s : Scanning W base len Z left right) where
-  pub scan-in : CanFold W base len → (left ≤ right) × (right < len) × (base + len ≤ length Z) × (length Z < 2 ^ 32)
-  scan-in g = let v = s.at g in (v.to.behind, v.to.full, v.to.list.within, v.to.list.small)
+module _ {W Z : List ℕ} {v s : Items} (t : Scanning W v Z s) where
+  pub scan-base : s.base ≡ v.base
+  scan-base = ap (λ (x : Items). x.base) t.moved
 
-  pub next-can : CanFold W base len → 2 ≤ left → CanFoldNext Z base len left right
-  next-can g h = record { scan = scanning (s.at g); two = h }
+  pub scan-in : CanFold W v.base v.len → (s.read ≤ s.write) × (s.write < v.len) × (v.base + v.len ≤ length Z) × (length Z < 2 ^ 32)
+  scan-in g = let n = t.at g in (n.to.behind, n.to.full, n.to.list.within, n.to.list.small)
 
-  pub scan-next : {Z' : List ℕ} {r : Scan} → FoldedNext Z base len left right r Z' → Scanning W base len Z' r.left r.right
-  scan-next {Z'} w =
+  pub next-can : CanFold W v.base v.len → 2 ≤ s.read → CanFoldNext Z s.base s.len s.read s.write
+  next-can g h =
+      subst (λ (x : Items). CanFoldNext Z x.base x.len s.read s.write) (sym t.moved) (record { scan = scanning (t.at g); two = h })
+
+  pub scan-next : {Z' : List ℕ} {r : Items} → FoldedNext Z s r Z' → Scanning W v Z' r
+  scan-next {Z'} {r} w' =
+      let w : FoldedNext Z (moved_to v s.read s.write) r Z' = subst (λ (x : Items). FoldedNext Z x r Z') t.moved w' in
       record {
         at = λ g.
-            let v = s.at g in
-            let n = scanning v in
+            let a = t.at g in
+            let n = scanning a in
             record {
-              L = v.to.L';
-              R = v.to.R';
-              same = v.same ∙ v.to.same;
+              L = a.to.L';
+              R = a.to.R';
+              same = a.same ∙ a.to.same;
               to = w.to n;
-              kept = kept_then W Z Z' g.X g.lo g.hi base (base + len) v.kept (w.kept n);
+              kept = kept_then W Z Z' g.X g.lo g.hi v.base (v.base + v.len) a.kept (w.kept n);
             };
-        long = w.long ∙ s.long;
+        moved = w.moved;
+        long = w.long ∙ t.long;
       }
 
 -- ---- what `fold_conditionals` ensures
@@ -171,24 +181,26 @@ folded-few {W} {base} {len} h =
       long = refl;
     }
 
-module _ {W : List ℕ} {base len : ℕ} {Z : List ℕ} {left right : ℕ} (s : Scanning W base len Z left right) where
-  pub folded-none : left ≡ 0 → FoldedAll W base len right Z
+module _ {W Z : List ℕ} {v s : Items} (t : Scanning W v Z s) where
+  pub folded-none : s.read ≡ 0 → FoldedAll W v.base v.len s.write Z
   folded-none e =
       record {
-        to = λ g. let v = s.at g in rw (v.same ∙ v.to.same ∙ scan-none v.to.list e) (all_done v.to.list);
-        kept = λ g. (s.at g).kept;
-        long = s.long;
+        to = λ g. let a = t.at g in rw (a.same ∙ a.to.same ∙ scan-none a.to.list e) (all_done a.to.list);
+        kept = λ g. (t.at g).kept;
+        long = t.long;
       }
 
-  pub folded-one : {Z' : List ℕ} → left ≡ 1 → Z' ≡ set Z (base + (right - 1)) (wd Z base) → FoldedAll W base len (right - 1) Z'
-  folded-one {Z'} e ez =
+  pub folded-one : {Z' : List ℕ} → s.read ≡ 1 → Z' ≡ set Z (s.base + (s.write - 1)) (wd Z s.base)
+      → FoldedAll W v.base v.len (s.write - 1) Z'
+  folded-one {Z'} e ez' =
+      let ez : Z' ≡ set Z (v.base + (s.write - 1)) (wd Z v.base) = rw (scan-base t) at ez' in
       record {
-        to = λ g. let v = s.at g in rw (v.same ∙ v.to.same) (scan-one v.to.list e v.to.behind ez);
+        to = λ g. let a = t.at g in rw (a.same ∙ a.to.same) (scan-one a.to.list e a.to.behind ez);
         kept = λ g.
-            let v = s.at g in
-            let behind = v.to.behind in
-            let full = v.to.full in
-            kept_then W Z Z' g.X g.lo g.hi base (base + len) v.kept
-            (λ j f o. set_other Z Z' (base + (right - 1)) (wd Z base) ez j (⊎_elim (λ x. omega arith) (λ x. omega arith) o));
-        long = set_long Z Z' (base + (right - 1)) (wd Z base) ez ∙ s.long;
+            let a = t.at g in
+            let behind = a.to.behind in
+            let full = a.to.full in
+            kept_then W Z Z' g.X g.lo g.hi v.base (v.base + v.len) a.kept
+            (λ j f o. set_other Z Z' (v.base + (s.write - 1)) (wd Z v.base) ez j (⊎_elim (λ x. omega arith) (λ x. omega arith) o));
+        long = set_long Z Z' (v.base + (s.write - 1)) (wd Z v.base) ez ∙ t.long;
       }

@@ -7,7 +7,8 @@ use Rattle.molang.specs.Operator
 use Rattle.molang.specs.{Forest.{Token, Forest, nil, node, count}, Conditional.{is_token, starts_with, under, pair_else, scan}}
 use Rattle.nodes.specs.{Store.{wd, RepT, Kept}, Slots.{is_token_at}}
 use Rattle.nodes.proofs.{Store.{rep-count, tree-below, tree-out, back-le}, Trees.{token-test}}
-use Rattle.levels.{specs.Items.{Ahead}, proofs.Reading.{AheadTo, item, ahead-item, ahead-le}}
+use Rattle.nodes.specs.declared.frames.List.{List as Items}
+use Rattle.levels.{specs.Passes.{moved_to}, specs.Items.{Ahead}, proofs.Reading.{AheadTo, item, ahead-item, ahead-le}}
 use Rattle.passes.specs.Unary.{RightList}
 use Rattle.passes.specs.Conditional.{scan_at, Grouped, FoldedLast, CanFoldElse, ElseFolded, start, short, no_if, no_else, pair, CanScan}
 use Rattle.passes.specs.Conditional.{ScanTo, FoldedNext}
@@ -241,15 +242,17 @@ else-long (no_if z q) = refl
 else-long (no_else h q) = refl
 else-long (pair z h q c w) = group-long w
 
-pub next-if : {W W1 W' : List ℕ} {base len left right r : ℕ} → 2 ≤ left → is_token_at W (wd W (base + (left - 1))) Operator.conditional ≡ true
-    → FoldedLast W base left right W1
-    → ElseFolded W1 base len (left - 2) right r W' → FoldedNext W base len left right (record { left = left - 2; right = r }) W'
-next-if {W} {W1} {W'} {base} {len} z e w o =
-    record {
+pub next-if : {W W1 W' : List ℕ} {v r : Items} → 2 ≤ v.read → is_token_at W (wd W (v.base + (v.read - 1))) Operator.conditional ≡ true
+    → FoldedLast W v.base v.read v.write W1
+    → ElseFolded W1 v.base v.len (v.read - 2) v.write r.write W' → r ≡ moved_to v (v.read - 2) r.write → FoldedNext W v r W'
+next-if {W} {W1} {W'} {v} {r} z e w o m =
+    rw m
+    (record {
       to = λ g. scanned-if g z e w o;
       kept = λ g.
-          with-fold g z e w (λ L. Kept W W' g.X g.lo g.hi base (base + len))
+          with-fold g z e w (λ L. Kept W W' g.X g.lo g.hi v.base (v.base + v.len))
           (λ a b bs rest d t list j f h. else-kept list o j f h ∙ fold-kept g z w j f h);
+      moved = refl;
       less = omega arith;
       long = else-long o ∙ group-long w;
-    }
+    })

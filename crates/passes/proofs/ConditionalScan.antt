@@ -7,7 +7,8 @@ use Rattle.molang.specs.Operator
 use Rattle.molang.specs.{Forest.{Token, Forest, nil, node}, Conditional.{is_token, starts_with, under, scan}}
 use Rattle.nodes.specs.{Store.{wd, Seg, SegB, RepT, RepF, ends, more, RepB, begins, put, Kept}, Slots.{is_token_at}}
 use Rattle.nodes.proofs.{Runs.{set_other, set_long}, Store.{reserve-pos, rep-le, tree-below, tree-out, back-le}, Trees.{token-test}}
-use Rattle.levels.{specs.Items.{BackArray, Ahead}, proofs.Reading.{AheadTo, item, ahead-item, ahead-le}}
+use Rattle.nodes.specs.declared.frames.List.{List as Items}
+use Rattle.levels.{specs.Passes.{moved_to}, specs.Items.{BackArray, Ahead}, proofs.Reading.{AheadTo, item, ahead-item, ahead-le}}
 use Rattle.passes.specs.Unary.{RightList}
 use Rattle.passes.specs.Conditional.{scan_at, CanFoldLast, FoldedLast, CanLook, IsElse, few, other, looked, CanScan, ScanTo}
 use Rattle.passes.specs.Conditional.{FoldedNext}
@@ -196,25 +197,30 @@ module _ {W : List ℕ} {base len left right : ℕ} (g : CanScan W base len left
 
 -- ---- what `fold_next` ensures
 
-module _ {W W' : List ℕ} {base len left right : ℕ} (z : 2 ≤ left) where
-  pub next-else : {r : Bool} → r ≡ true → IsElse W base left r → FoldedLast W base left right W'
-      → FoldedNext W base len left right (record { left = left - 2; right = right }) W'
+module _ {W W' : List ℕ} {v : Items} (z : 2 ≤ v.read) where
+  pub next-else : {r : Bool} → r ≡ true → IsElse W v.base v.read r → FoldedLast W v.base v.read v.write W'
+      → FoldedNext W v (moved_to v (v.read - 2) v.write) W'
   next-else e i w =
       record {
-        to = λ g. scanned-else g z (subst (λ (b : Bool). IsElse W base left b) e i) w;
+        to = λ g. scanned-else g z (subst (λ (b : Bool). IsElse W v.base v.read b) e i) w;
         kept = λ g. fold-kept g z w;
+        moved = refl;
         less = omega arith;
         long = group-long w;
       }
 
-  pub next-on : {r : Bool} → r ≡ false → IsElse W base left r → is_token_at W (wd W (base + (left - 1))) Operator.conditional ≡ false
-      → W' ≡ set W (base + (right - 1)) (wd W (base + (left - 1))) → 0 < right → right < len
-      → FoldedNext W base len left right (record { left = left - 1; right = right - 1 }) W'
+  pub next-on : {r : Bool} → r ≡ false → IsElse W v.base v.read r
+      → is_token_at W (wd W (v.base + (v.read - 1))) Operator.conditional ≡ false
+      → W' ≡ set W (v.base + (v.write - 1)) (wd W (v.base + (v.read - 1))) → 0 < v.write → v.write < v.len
+      → FoldedNext W v (moved_to v (v.read - 1) (v.write - 1)) W'
   next-on e i no-if ew some full =
       record {
-        to = λ g. scanned-on g z (subst (λ (b : Bool). IsElse W base left b) e i) no-if ew;
+        to = λ g. scanned-on g z (subst (λ (b : Bool). IsElse W v.base v.read b) e i) no-if ew;
         kept =
-            λ g j f o. set_other W W' (base + (right - 1)) (wd W (base + (left - 1))) ew j (⊎_elim (λ x. omega arith) (λ x. omega arith) o);
+            λ g j f o.
+            set_other W W' (v.base + (v.write - 1)) (wd W (v.base + (v.read - 1))) ew j
+            (⊎_elim (λ x. omega arith) (λ x. omega arith) o);
+        moved = refl;
         less = omega arith;
-        long = set_long W W' (base + (right - 1)) (wd W (base + (left - 1))) ew;
+        long = set_long W W' (v.base + (v.write - 1)) (wd W (v.base + (v.read - 1))) ew;
       }

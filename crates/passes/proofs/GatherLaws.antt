@@ -18,9 +18,11 @@ use Rattle.levels.specs.Turns.{SameList, Within, CanTurn, lent_of, afresh, TurnT
 use Rattle.levels.specs.{declared.items.Found.{Found}, declared.items.Found.TheVariants.{Nothing, Children, Token as Leaf}}
 use Rattle.levels.specs.{declared.turns.Pass.{Pass}, declared.turns.Walk.{Walk}, declared.turns.Turn.{Turn}}
 use Rattle.levels.specs.declared.turns.Turn.TheVariants.{Enter, Over}
+use Rattle.std.specs.Prelude.{Ok}
 use Rattle.levels.proofs.Reading.{can-peek, back-array-keep, AheadTo, item, ahead-item, ahead-keep, ahead-le, array-put}
 use Rattle.levels.proofs.States.{holds_of}
 use Rattle.passes.specs.TokenTurns.{AtItem, AtToken, TokenTurned, Saying}
+use Rattle.passes.proofs.TurnLaws.{Step}
 
 -- ---- trees that are passed over
 
@@ -84,7 +86,7 @@ pub same_then : {u v w : Walk} → SameList u v → SameList v w → SameList u 
 same_then a b = record { owner = b.owner ∙ a.owner; base = b.base ∙ a.base; len = b.len ∙ a.len; classes = b.classes ∙ a.classes }
 
 -- a turn that first goes over some trees
-pub turn-after : {κ : Kind} {W X : List ℕ} {lo hi : ℕ} {u v : Walk} {s t : State κ} {rest rest1 : Forest} {r : Turn} → SameList u v
+pub turn-after : {κ : Kind} {W X : List ℕ} {lo hi : ℕ} {u v : Walk} {s t : State κ} {rest rest1 : Forest} {r : Step} → SameList u v
     → work κ s rest ≡ work κ t rest1 → count rest1 ≤ count rest → size rest1 + count rest ≤ size rest + count rest1 → waits κ t ≡ waits κ s
     → TurnTo κ W X lo hi v t rest1 r → TurnTo κ W X lo hi u s rest r
 turn-after same e c z i (goes x h f c' z' t) = goes (same_then same x) h (e ∙ f) (omega arith) (omega arith) (omega arith)
@@ -233,7 +235,7 @@ module _ {κ : Kind} {pass : Pass} {P : ℕ → Bool} {idle : Forest → State �
   module _ {W X : List ℕ} (v : Items) {lo hi : ℕ} {d rest : Forest} (fine : good d ≡ true) (below : slot_start hi ≤ v.base)
       (within : v.base + v.len ≤ length W) (small : length W < 2 ^ 32) where
     sought-over : {v' : Items} → SoughtTo W X v v.base lo hi P d rest (Nothing v')
-        → TurnTo κ W X lo hi (walk_of v pass) (idle d) rest (Over (walk_of v' pass))
+        → TurnTo κ W X lo hi (walk_of v pass) (idle d) rest (Ok (Over (walk_of v' pass)))
     sought-over {v'} (none {d' = d'} e behind p s) =
         let same = same-moved v v' pass pass e refl in
         let b = same.base in let n = same.len in
@@ -244,7 +246,7 @@ module _ {κ : Kind} {pass : Pass} {P : ℕ → Bool} {idle : Forest → State �
         (L.turning v' behind)) (L.calm d') (L.passes p)
 
     sought-enter : {v' : Items} {b : ℕ} → SoughtTo W X v v.base lo hi P d rest (Children v' b)
-        → TurnTo κ W X lo hi (walk_of v pass) (idle d) rest (Enter (walk_of v' pass) b)
+        → TurnTo κ W X lo hi (walk_of v pass) (idle d) rest (Ok (Enter (walk_of v' pass) b))
     unfolding count size sought-item
     sought-enter {v'} {b} (tree {d' = d'} {rest' = rest'} {cs = cs} {a = a} {m = m} {k = k} e behind p full unfree t s) =
         let i = sought-item v below within small e behind t s in
@@ -258,7 +260,7 @@ module _ {κ : Kind} {pass : Pass} {P : ℕ → Bool} {idle : Forest → State �
     sought-at (leaf {d' = d'} {rest' = rest'} {k = k} e behind p is_p t s) =
         record { X = X; lo = lo; hi = hi; d = d'; k = k; rest = rest'; item = sought-item v below within small e behind t s }
 
-    sought-token : {v' : Items} {b : ℕ} {r : Turn} {W' : List ℕ} → SoughtTo W X v v.base lo hi P d rest (Leaf v' b)
+    sought-token : {v' : Items} {b : ℕ} {r : Step} {W' : List ℕ} → SoughtTo W X v v.base lo hi P d rest (Leaf v' b)
         → TokenTurned κ idle P good W (walk_of v' pass) b r W' → TurnTo κ W' X lo hi (walk_of v pass) (idle d) rest r × Within W W' X lo hi v
     sought-token {v'} {b} (leaf {d' = d'} {rest' = rest'} {k = k} e behind p is_p t s) T =
         let g : AtToken W v' b =
@@ -362,22 +364,22 @@ module _ {T : Saying} {W : List ℕ} {v : Items} {pass : Pass} {κ : Kind} {X : 
         record { kept = λ j x o. h.same j (⊎_elim (λ y. inl (omega arith)) (λ y. inr y) o); long = h.long }
 
   pub turn-over : {W' : List ℕ} {v' : Items} → Sought W v (classes_of pass) (Nothing v') W'
-      → TurnTo κ W' X lo hi (walk_of v pass) s rest (Over (walk_of v' pass))
+      → TurnTo κ W' X lo hi (walk_of v pass) s rest (Ok (Over (walk_of v' pass)))
   turn-over {W'} {v'} h =
-      subst (λ (x : State κ). TurnTo κ W' X lo hi (walk_of v pass) x rest (Over (walk_of v' pass))) g.state
+      subst (λ (x : State κ). TurnTo κ W' X lo hi (walk_of v pass) x rest (Ok (Over (walk_of v' pass)))) g.state
       (sought-over g.level v g.fine g.below (omega (arith, g.within, h.long)) (omega (arith, g.small, h.long)) (sought-to h))
 
   pub turn-enter : {W' : List ℕ} {v' : Items} {b : ℕ} → Sought W v (classes_of pass) (Children v' b) W'
-      → TurnTo κ W' X lo hi (walk_of v pass) s rest (Enter (walk_of v' pass) b)
+      → TurnTo κ W' X lo hi (walk_of v pass) s rest (Ok (Enter (walk_of v' pass) b))
   turn-enter {W'} {v'} {b} h =
-      subst (λ (x : State κ). TurnTo κ W' X lo hi (walk_of v pass) x rest (Enter (walk_of v' pass) b)) g.state
+      subst (λ (x : State κ). TurnTo κ W' X lo hi (walk_of v pass) x rest (Ok (Enter (walk_of v' pass) b))) g.state
       (sought-enter g.level v g.fine g.below (omega (arith, g.within, h.long)) (omega (arith, g.small, h.long)) (sought-to h))
 
   pub token-at : {W' : List ℕ} {v' : Items} {b : ℕ} → Sought W v (classes_of pass) (Leaf v' b) W' → AtToken W' v' b
   token-at h =
       sought-at g.level v g.fine g.below (omega (arith, g.within, h.long)) (omega (arith, g.small, h.long)) (sought-to h)
 
-  pub turn-token : {W' W'' : List ℕ} {v' : Items} {b : ℕ} {r : Turn} → Sought W v (classes_of pass) (Leaf v' b) W'
+  pub turn-token : {W' W'' : List ℕ} {v' : Items} {b : ℕ} {r : Step} → Sought W v (classes_of pass) (Leaf v' b) W'
       → TokenTurned κ g.idle g.P g.good W' (walk_of v' pass) b r W''
       → TurnTo κ W'' X lo hi (walk_of v pass) s rest r × Within W W'' X lo hi v
   turn-token {W'' = W''} {r = r} h t =
@@ -399,13 +401,13 @@ sought-as {W} {W'} {v} {c} e h = subst (λ (x : Found). Sought W v c x W') e h
 module _ {W W' : List ℕ} {v : Items} {pass : Pass} where
   pub turned-over : {v' : Items} {f : Found} {r : Turn} → Standing Nothing-told W v pass → Sought W v (classes_of pass) f W' → f ≡ Nothing v'
       → r ≡ Over (walk_of v' pass)
-      → Turned W (walk_of v pass) r W'
+      → Turned W (walk_of v pass) (Ok r) W'
   turned-over stand h e er =
       let i = sought-as e h in rw er (record { to = λ g. turn-over (stand g) i; within = λ g. sought-within (stand g) i })
 
   pub turned-enter : {v' : Items} {f : Found} {r : Turn} {b : ℕ} → Standing Nothing-told W v pass → Sought W v (classes_of pass) f W'
       → f ≡ Children v' b
-      → r ≡ Enter (walk_of v' pass) b → Turned W (walk_of v pass) r W'
+      → r ≡ Enter (walk_of v' pass) b → Turned W (walk_of v pass) (Ok r) W'
   turned-enter stand h e er =
       let i = sought-as e h in rw er (record { to = λ g. turn-enter (stand g) i; within = λ g. sought-within (stand g) i })
 
@@ -414,7 +416,7 @@ module _ {W W' : List ℕ} {v : Items} {pass : Pass} where
       → Sought W v (classes_of pass) f W' → f ≡ Leaf v' b → AtToken W' v' b
   token-found stand g h e = token-at (stand g) (sought-as e h)
 
-  pub turned-token : {v' : Items} {f : Found} {b : ℕ} {r : Turn} {W'' : List ℕ}
+  pub turned-token : {v' : Items} {f : Found} {b : ℕ} {r : Step} {W'' : List ℕ}
       → Standing (λ κ idle P good. TokenTurned κ idle P good W' (walk_of v' pass) b r W'') W v pass
       → Sought W v (classes_of pass) f W' → f ≡ Leaf v' b → Turned W (walk_of v pass) r W''
   turned-token stand h e =

@@ -25,4 +25,5 @@ pub mod ConditionalPair
 pub mod ConditionalLoop
 pub mod ConditionalEnd
 pub mod TurnLaws
+pub mod ListWords
 pub mod SeekLaws

@@ -10,8 +10,9 @@ use Rattle.molang.{specs.Work.{Kind, returns, State, work, begins, in_reading, t
 use Rattle.nodes.specs.{declared.frames.List.{List as Items}, Store.{wd, slot_start}, Children.{Attached}}
 use Rattle.levels.specs.{Passes.{walk_of, moved_to, operators, Runs, return_pass, waits}, Items.{Ahead}, Sides.{GatherSide, all, Holds}}
 use Rattle.levels.specs.{Turns.{Within, TurnTo, goes, fails}, declared.turns.Pass.TheVariants.{Returns}, declared.turns.Turn.{Turn}}
-use Rattle.levels.specs.{declared.turns.Turn.TheVariants.{On, Fail}, declared.failure.Failure.TheVariants.{UnaryWithoutOperand}}
+use Rattle.levels.specs.{declared.turns.Turn.TheVariants.{On}, declared.failure.Failure.TheVariants.{UnaryWithoutOperand}}
 use Rattle.levels.specs.Failures.{Tells}
+use Rattle.std.specs.Prelude.{Ok, Err}
 use Rattle.levels.proofs.{Reading.{ahead-end, same-within}, PassClasses.{runs-covers}, States.{sides-of}}
 use Rattle.passes.specs.TokenTurns.{unasked, ReturnTurned, Saying}
 use Rattle.passes.proofs.GatherLaws.{walk-node, walk-passed, LeftLevel, item-holds, kept-within, Attaching, attached, item-attached}
@@ -66,7 +67,7 @@ return-takes : (d : Forest) (k t : Token) (ts rest : Forest) → is_return k.op 
 return-takes d k t ts rest p = unfold work walk return_level return_step in rw (return-step d k p, walk) refl
 
 -- nothing comes after the `return`
-pub returned-end : (W : List ℕ) (v : Items) (b : ℕ) → v.read ≡ v.len → ReturnTurned W v b (Fail (UnaryWithoutOperand b)) W
+pub returned-end : (W : List ℕ) (v : Items) (b : ℕ) → v.read ≡ v.len → ReturnTurned W v b (Err (UnaryWithoutOperand b)) W
 returned-end W v b e =
     record {
       to = λ g p fine.
@@ -81,7 +82,7 @@ module _ {W W' : List ℕ} (W'' : List ℕ) (v : Items) (b c : ℕ) (e : wd W (v
   return-goes : {X : List ℕ} {lo hi : ℕ} {d : Forest} {k : Token} {rest : Forest} → is_return k.op ≡ true
       → Attaching W W' X v b lo hi d k rest
       → TurnTo returns W'' X lo hi (walk_of v Returns) (gathered d) (node k nil rest)
-      (On (walk_of (moved_to v (v.read + 1) (v.write + 1)) Returns))
+      (Ok (On (walk_of (moved_to v (v.read + 1) (v.write + 1)) Returns)))
   unfolding count size waits
   return-goes {d = d} {k = k} p (attached {t = t} {ts = ts} {rest = rest} i x) =
       goes {s' = gathered (node k (node t ts nil) d)} (record { owner = refl; base = refl; len = refl; classes = refl })
@@ -92,12 +93,12 @@ module _ {W W' : List ℕ} (W'' : List ℕ) (v : Items) (b c : ℕ) (e : wd W (v
   return-within (attached i x) = within-then refl refl x (kept-within W' W'' i s)
 
   -- the next tree goes below the `return`
-  pub returned-on : ReturnTurned W v b (On (walk_of (moved_to v (v.read + 1) (v.write + 1)) Returns)) W''
+  pub returned-on : ReturnTurned W v b (Ok (On (walk_of (moved_to v (v.read + 1) (v.write + 1)) Returns))) W''
   returned-on =
       record { to = λ g p fine. return-goes p (item-attached g.item e n w); within = λ g. return-within (item-attached g.item e n w) }
 
   -- the same of the list and the turn that the code makes
   pub returned-turn : (l1 l2 : Items) (r : Turn) → l1 ≡ moved_to v (v.read + 1) v.write → l2 ≡ moved_to l1 l1.read (l1.write + 1)
       → r ≡ On (walk_of l2 Returns)
-      → ReturnTurned W v b r W''
+      → ReturnTurned W v b (Ok r) W''
   returned-turn l1 l2 r e1 e2 er = rw (er, e2, e1) returned-on

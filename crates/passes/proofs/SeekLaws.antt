@@ -1,9 +1,11 @@
 -- The levels that seek their tokens from the left, by their pass: what GatherLaws says of such a level holds of each. Assumes nothing.
-use mathlib.Core.{Path.{◌≡◌, sym, ap, ◌∙◌, subst}, List.{List, [], ◌∷◌}}
+use mathlib.Core.{Path.{◌≡◌, refl, sym, ap, ◌∙◌, subst}, Bool.{Bool, true, false}, List.{List, [], ◌∷◌}}
 use Prim.Native.Nat.{ℕ, ◌+◌}
 use types.Run.{OneOf, miss}
 use denote.Enum.Declared.{tag_of}
-use lib.ListN.{set}
+use lib.{Dec.{eqb}, ListN.{set}}
+use borrow.Author.Tests.{eqb-true}
+use Rattle.std.{specs.Prelude.{None, Some, Ok, if◌then◌else◌}, proofs.lemmas.Option.{none-some}}
 use Rattle.ops.specs.declared.classes.TokenClasses.{TokenClasses}
 use Rattle.nodes.specs.declared.frames.List.{List as Items}
 use Rattle.levels.specs.{Passes.{walk_of, moved_to, classes_of, waiting_of}, Items.{Sought}, Turns.{CanTurn}, declared.items.Found.{Found}}
@@ -13,7 +15,7 @@ use Rattle.levels.specs.contracts.turns.Pass.{the_type}
 use Rattle.passes.specs.TokenTurns.{TokenTurned, Seeks, Saying, OfLevel, TokenOf}
 use Rattle.passes.proofs.{GatherLaws.{Nothing-told, Standing}, CallLaws.{query-stands, math-stands}}
 use Rattle.passes.proofs.{StatementLaws.{unsplit-stands, unsplit-kept}, ArrayTurns.{array-stands}, BinaryLaws.{level-stands}}
-use Rattle.passes.proofs.ReturnLaws.{return-stands}
+use Rattle.passes.proofs.{ReturnLaws.{return-stands}, TurnLaws.{Step}}
 
 module _ {T : Saying} (W : List ℕ) (v : Items) where
   pub left-stands : (pass : Pass) → Seeks pass → OfLevel T pass → Standing T W v pass
@@ -50,8 +52,12 @@ sought-of {W} {W'} {v} {c} {f} p e h = subst (λ (x : ℕ). Sought W v x f W') e
 
 -- ---- by the arms of the driver's functions
 
+idle-none : (b : Bool) (x : ℕ) → (if b then None else Some x) ≡ None → b ≡ true
+idle-none true x e = refl
+idle-none false x e = absurd (none-some x (sym e))
+
 -- The passes that only seek, at a turn.
-pub seeks-at : {W : List ℕ} {v : Items} (p : Pass) → OneOf (0 ∷ 1 ∷ 2 ∷ 4 ∷ 6 ∷ 8 ∷ []) (tag_of the_type p) → waiting_of p ≡ 0
+pub seeks-at : {W : List ℕ} {v : Items} (p : Pass) → OneOf (0 ∷ 1 ∷ 2 ∷ 4 ∷ 6 ∷ 8 ∷ []) (tag_of the_type p) → waiting_of p ≡ None
     → CanTurn W (walk_of v p)
     → Seeks p
 unfolding waiting_of
@@ -59,7 +65,7 @@ seeks-at Calls t n g = tt
 seeks-at MathCalls t n g = tt
 seeks-at Unsplit t n g = tt
 seeks-at (Split done) t n g = absurd (miss (0 ∷ 1 ∷ 2 ∷ 4 ∷ 6 ∷ 8 ∷ []) 3 tt t)
-seeks-at (Arrays array lent) t n g = (n, g.holds.turning.0)
+seeks-at (Arrays array lent) t n g = (eqb-true array 0 (idle-none (eqb array 0) array n), g.holds.turning.0)
 seeks-at Unary t n g = absurd (miss (0 ∷ 1 ∷ 2 ∷ 4 ∷ 6 ∷ 8 ∷ []) 5 tt t)
 seeks-at (Binary classes pending) t n g = g.holds.turning.0
 seeks-at (Conditional tokens) t n g = absurd (miss (0 ∷ 1 ∷ 2 ∷ 4 ∷ 6 ∷ 8 ∷ []) 7 tt t)
@@ -71,13 +77,14 @@ array-none p {a} {l} e u = let none = subst Seeks e u in e ∙ (ap (λ (x : ℕ)
 pub level-idle : (p : Pass) {classes : TokenClasses} {q : ℕ} → p ≡ Binary classes q → Seeks p → p ≡ Binary classes 0
 level-idle p {classes} e u = e ∙ ap (Binary classes) (subst Seeks e u)
 
-module _ {W W' : List ℕ} {v : Items} {b : ℕ} {r : Turn} where
-  pub token-by : (p q : Pass) → p ≡ q → OfLevel (λ κ idle P good. TokenTurned κ idle P good W (walk_of v q) b r W') q → TokenOf p W v b r W'
-  token-by p q e t = subst (λ (x : Pass). TokenOf x W v b r W') (sym e) (record { turned = t })
+module _ {W W' : List ℕ} {v : Items} {b : ℕ} where
+  pub token-by : {r : Step} (p q : Pass) → p ≡ q → OfLevel (λ κ idle P good. TokenTurned κ idle P good W (walk_of v q) b r W') q
+      → TokenOf p W v b r W'
+  token-by {r} p q e t = subst (λ (x : Pass). TokenOf x W v b r W') (sym e) (record { turned = t })
 
-  pub token-kept : {v' : Items} (p : Pass) → OneOf (2 ∷ 3 ∷ 5 ∷ 7 ∷ []) (tag_of the_type p) → W' ≡ set W (v.base + v.write) b
+  pub token-kept : {v' : Items} {r : Turn} (p : Pass) → OneOf (2 ∷ 3 ∷ 5 ∷ 7 ∷ []) (tag_of the_type p) → W' ≡ set W (v.base + v.write) b
       → v' ≡ moved_to v v.read (v.write + 1)
-      → r ≡ On (walk_of v' p) → TokenOf p W v b r W'
+      → r ≡ On (walk_of v' p) → TokenOf p W v b (Ok r) W'
   token-kept Calls t e el er = absurd (miss (2 ∷ 3 ∷ 5 ∷ 7 ∷ []) 0 tt t)
   token-kept MathCalls t e el er = absurd (miss (2 ∷ 3 ∷ 5 ∷ 7 ∷ []) 1 tt t)
   token-kept Unsplit t e el er = record { turned = unsplit-kept e el er }

@@ -13,8 +13,9 @@ use Rattle.nodes.proofs.Store.{rep-raise, tree-more, tree-keep, back-le, back-ra
 use Rattle.nodes.proofs.Keeping.{free-beside, free-above, free_part, give_kept}
 use Rattle.nodes.proofs.Trees.{tree-under, array-give, gathered-array, give-owned, give-token, owned-tree}
 use Rattle.levels.{specs.Passes.{walk_of}, specs.Items.{BackArray}, specs.Sides.{EndedAt, Ended, nothing, statement}}
-use Rattle.levels.{specs.Turns.{Within, CanFinish, FinishTo, gives, Ends}, specs.declared.turns.Pass.TheVariants.{Split as SplitAt}}
-use Rattle.levels.{specs.declared.turns.Finished.TheVariants.{At}, proofs.Reading.{ahead-le}, proofs.Ended.{FirstEnded, ended-first}}
+use Rattle.levels.{specs.Turns.{Within, CanFinish, ended_at, FinishTo, gives, Ends}, specs.declared.turns.Pass.TheVariants.{Split as SplitAt}}
+use Rattle.std.specs.Prelude.{Ok}
+use Rattle.levels.{proofs.Reading.{ahead-le}, proofs.Ended.{FirstEnded, ended-first}}
 use Rattle.passes.specs.Statements.{Grouped, CanClose, ClosedTo, complete, closing}
 use Rattle.passes.proofs.StatementLaws.{earliest, open_on}
 use Rattle.passes.proofs.StatementGroup.{in_order_lem, order-first, TurnedFirst, grouped-tree, grouped-same, grouped-stored}
@@ -329,7 +330,7 @@ finish-asks h i = finish-view-asks h.small (split-view h.holds) i
 module _ {W W1 W2 W3 : List ℕ} {l : Items} {n r : ℕ} (i : ClosedTo W l n r W1) (g : Given W1 (wd W1 l.base + 2) l.base r W2)
     (w : W3 ≡ set W2 l.base (wd W1 l.base + 2)) where
   view-ends : {X : List ℕ} {lo hi : ℕ} {κ : Kind} {s : State κ} → SplitView W X lo hi l n κ s nil
-      → FinishTo κ W3 X lo hi l s (At l.base 1) × Within W W3 X lo hi l
+      → FinishTo κ W3 X lo hi l s (Ok (ended_at l.base 1)) × Within W W3 X lo hi l
   view-ends {X} {lo} {hi} (splits {q = q} {done = done} {d = d} {c = c} v b e u le p t below within) =
       let al = ahead-le u in
       let full = pending-full q done p in
@@ -346,5 +347,5 @@ module _ {W W1 W2 W3 : List ℕ} {l : Items} {n r : ℕ} (i : ClosedTo W l n r W
         },
       )
 
-  pub split-ends : Ends W (walk_of l (SplitAt n)) (At l.base 1) W3
+  pub split-ends : Ends W (walk_of l (SplitAt n)) (Ok (ended_at l.base 1)) W3
   split-ends = record { to = λ h. (view-ends (split-view h.holds)).0; within = λ h. (view-ends (split-view h.holds)).1 }

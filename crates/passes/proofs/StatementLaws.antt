@@ -1,11 +1,12 @@
 -- The statement pass as laws: which semicolons a list has, what the trees between them change, and what a finished statement's words say of
 -- trees.
 use Prim.Native.Nat.{ℕ, ◌+◌, ◌≤◌, ◌<◌}
-use mathlib.Core.{Path.{◌≡◌, refl, sym, ap, ◌∙◌, subst}, Logic.{inl, inr, ⊎_elim}, Bool.{Bool, true, false, not, true≢false}}
+use mathlib.Core.{Path.{◌≡◌, refl, sym, ap, ◌∙◌, subst}, Logic.{inl, inr, ⊎_elim}, Bool.{Bool, true, false, not, ◌||◌, true≢false}}
 use mathlib.Core.{List.{List, [], ◌∷◌}, Option.{none, some}}
 use native.Mathlib.{Omega.{arith}, Nat.{le_refl}}
-use lib.{Dec.{eqb}, ListN.{length, set}}
+use lib.{Dec.{eqb}, ListN.{length, set, get_or}}
 use borrow.Author.Tests.{not-true, not-false}
+use Rattle.std.specs.List.{between, list_any}
 use Rattle.molang.specs.{Operator.{semicolon}, Forest.{Token, Forest, nil, node, bare, count, size}, Message.{Message, Result, ok, fail}}
 use Rattle.molang.specs.{Level.{on, into, stop, walk, through}, Conditional.{is_token}, Order.{last_of}}
 use Rattle.molang.specs.Statements.{Split, unsplit, after, inside, split_of, is_entered, gather, end_statement, enter_split, statement_step}
@@ -13,60 +14,26 @@ use Rattle.molang.specs.{Statements.{statement_resume, statement_level}, Free.{f
 use Rattle.molang.specs.Work.{Kind, statements, State, work, begins, in_reading, takes, and_then}
 use Rattle.molang.proofs.{Trees.{some-none, free-leaf, free-tree}, Statements.{split-clear, statement-free}}
 use Rattle.molang.proofs.Walks.{onward, back, walk-onward}
-use Rattle.nodes.specs.{Store.{wd, slot_start, slot_end, InArray, begins as begins-with, Seg, Inc}, Slots.{is_token_at, Laid}}
+use Rattle.nodes.specs.{Store.{wd, slot_start, slot_end, InArray, begins as begins-with, Seg, Inc, RepF, ends, more, RepT}}
+use Rattle.nodes.specs.Slots.{is_token_at, Laid}
 use Rattle.nodes.specs.{declared.stored.StoredWords.{StoredWords}, declared.frames.List.{List as Items}, Children.{CanGive}}
-use Rattle.nodes.proofs.{Runs.{inc-le, seg-keep}, Store.{tree-below, back-le}, Trees.{token-test}}
+use Rattle.nodes.proofs.{Runs.{inc-le, seg-keep}, Store.{back-le}, Trees.{token-test}}
 use Rattle.levels.specs.Passes.{walk_of, moved_to, classes_of, operators, Covers, Runs, unsplit_pass, split, waits}
 use Rattle.levels.specs.Items.{BackArray, Ahead, Passed, here, over, Sought}
 use Rattle.levels.specs.{Sides.{StatementSide, whole, closed, EndedAt, nothing, Holds}, Turns.{SameList, Within, goes, CanStart, Started}}
 use Rattle.levels.specs.{declared.items.Found.{Found}, declared.turns.Pass.{Pass}}
 use Rattle.levels.specs.{declared.turns.Pass.TheVariants.{Unsplit, Split as SplitAt}, declared.turns.Turn.{Turn}}
 use Rattle.levels.specs.declared.turns.Turn.TheVariants.{On}
-use Rattle.levels.proofs.{PassClasses.{runs-covers}, Reading.{AheadTo, item, ahead-item, ahead-end, ahead-le}, States.{sides-of, holds_of}}
+use Rattle.std.specs.Prelude.{Ok}
+use Rattle.levels.proofs.{PassClasses.{runs-covers}, Reading.{ahead-le}, States.{sides-of, holds_of}}
 use Rattle.passes.specs.{Statements.{HasSemicolon}, TokenTurns.{unasked, TokenTurned, Saying}}
 use Rattle.passes.proofs.GatherLaws.{LeftLevel, item-holds, kept-within, Stands, stands, Standing}
+use Rattle.passes.proofs.ListWords.{array-words, array-below}
 
 -- ---- which semicolons a list has
 
 pub semicolon-class : Covers 0x2 is_semicolon
 semicolon-class = unfold operators in runs-covers statements Unsplit unsplit_pass
-
--- What holds at the test of the loop of `has_semicolon`, whatever forest the list is.
-pub record LookAt (W : List ℕ) (v : Items) (g : CanStart W v) (i : ℕ) : Type 0 where
-  pub rest : Forest
-  pub m : ℕ
-  pub ahead : Ahead W g.X v.base i v.len m g.hi rest
-  pub same : clear is_semicolon g.f ≡ clear is_semicolon rest
-
-pub record Looking (W : List ℕ) (v : Items) (i : ℕ) : Type 0 where
-  pub at : (g : CanStart W v) → LookAt W v g i
-  pub within : i ≤ v.len
-
-module _ {W : List ℕ} {v : Items} where
-  pub look-start : Looking W v 0
-  look-start =
-      record {
-        at = λ g. record {
-          rest = g.f;
-          m = g.lo;
-          ahead =
-              record {
-                n = v.len;
-                count = omega arith;
-                array = subst (λ (x : ℕ). InArray W g.X x v.len g.lo g.hi g.f) (omega arith) g.array;
-              };
-          same = refl;
-        };
-        within = omega arith;
-      }
-
-  -- the item that a turn reads: its slot is below the stack
-  pub look-slot : {i : ℕ} (g : CanStart W v) → Looking W v i → i < v.len → slot_end (wd W (v.base + i)) ≤ v.base
-  look-slot {i} g l h = go (ahead-item (wd W (v.base + i)) refl h (l.at g).ahead)
-    where
-      go : {f : Forest} → AheadTo W g.X v.base i v.len (l.at g).m g.hi (wd W (v.base + i)) f
-          → slot_end (wd W (v.base + i)) ≤ v.base
-      go (item low t r) = omega (arith, tree-below t, (ahead-le r).0, g.below)
 
 leaf-token : (k : Token) (cs rest : Forest) → is_token semicolon k cs ≡ true → clear is_semicolon (node k cs rest) ≡ false
 unfolding is_token clear is_semicolon is_nil
@@ -78,28 +45,43 @@ unfolding is_token clear is_semicolon is_nil
 other-token k nil rest h = rw h refl
 other-token k (node c cs r) rest h = refl
 
-module _ {W : List ℕ} {v : Items} {i : ℕ} (l : Looking W v i) (h : i < v.len) where
-  pub look-found : is_token_at W (wd W (v.base + i)) semicolon ≡ true → HasSemicolon W v true
-  look-found e = record { answer = λ g. go g (ahead-item (wd W (v.base + i)) refl h (l.at g).ahead) (l.at g).same }
-    where
-      go : (g : CanStart W v) {m : ℕ} {f : Forest} → AheadTo W g.X v.base i v.len m g.hi (wd W (v.base + i)) f
-          → clear is_semicolon g.f ≡ clear is_semicolon f → true ≡ not (clear is_semicolon g.f)
-      go g (item {k = k} {cs = cs} {rest = rest} low t r) s = rw (s ∙ leaf-token k cs rest (sym (token-test semicolon cs t) ∙ e)) refl
-
-  pub look-next : is_token_at W (wd W (v.base + i)) semicolon ≡ false → Looking W v (i + 1)
-  look-next e = record { at = λ g. go g (ahead-item (wd W (v.base + i)) refl h (l.at g).ahead) (l.at g).same; within = omega arith }
-    where
-      go : (g : CanStart W v) {m : ℕ} {f : Forest} → AheadTo W g.X v.base i v.len m g.hi (wd W (v.base + i)) f
-          → clear is_semicolon g.f ≡ clear is_semicolon f → LookAt W v g (i + 1)
-      go g (item {m = m} {k = k} {cs = cs} {rest = rest} low t r) s =
-          record { rest = rest; m = m; ahead = r; same = s ∙ other-token k cs rest (sym (token-test semicolon cs t) ∙ e) }
-
-pub look-done : {W : List ℕ} {v : Items} {i : ℕ} → Looking W v i → v.len ≤ i → HasSemicolon W v false
+-- one of the roots is a leaf that is a semicolon, or none is
+semicolons : {W X bs : List ℕ} {lo hi : ℕ} {f : Forest} → RepF W X bs lo hi f
+    → list_any (λ s. is_token_at W s semicolon) bs ≡ not (clear is_semicolon f)
 unfolding clear
-look-done l h =
-    record {
-      answer = λ g. let e = (l.at g).same ∙ ap (clear is_semicolon) (ahead-end (l.at g).rest h (l.at g).ahead) in rw e refl;
-    }
+semicolons (ends h) = refl
+semicolons {W} {X} (more {b = b} {bs = bs} {l = l} {m = m} {t = t} {k = k} {f = f} {cs = cs} a low high pos out token noted chain kids r) =
+    rw (token-test semicolon k tree) (go (is_token semicolon t k) refl (semicolons r))
+  where
+    tree : RepT W X b l m t k
+    tree =
+        record {
+          cs = cs;
+          low = low;
+          high = high;
+          pos = pos;
+          out = out;
+          token = token;
+          noted = noted;
+          chain = chain;
+          kids = kids;
+        }
+
+    go : (x : Bool) → is_token semicolon t k ≡ x
+        → list_any (λ s. is_token_at W s semicolon) bs ≡ not (clear is_semicolon f)
+        → (x || list_any (λ s. is_token_at W s semicolon) bs) ≡ not (clear is_semicolon (node t k f))
+    go true e h = rw (leaf-token t k f e) refl
+    go false e h = rw (other-token t k f e) h
+
+module _ {W : List ℕ} {v : Items} where
+  -- what `has_semicolon` asks of each item
+  pub look-slot : (g : CanStart W v) (k x : ℕ) → k < length (between v.base (v.base + v.len) W)
+      → x ≡ get_or (between v.base (v.base + v.len) W) k x → slot_end x ≤ length W
+  look-slot g k x h e =
+      let b : x < g.hi = array-below g.array (v.base + v.len) refl g.within k x h e in omega (arith, g.below, g.within)
+
+  pub looked : HasSemicolon W v (list_any (λ s. is_token_at W s semicolon) (between v.base (v.base + v.len) W))
+  looked = record { answer = λ g. rw (array-words g.array (v.base + v.len) refl g.within) (semicolons g.array.rep) }
 
 -- ---- the list's first semicolon
 
@@ -351,7 +333,7 @@ unsplit-stands {T} W v t g = go g.holds.sides.runs g.holds
 -- a semicolon would stay as it is
 pub unsplit-kept : {W W' : List ℕ} {v v' : Items} {b : ℕ} {r : Turn} → W' ≡ set W (v.base + v.write) b
     → v' ≡ moved_to v v.read (v.write + 1) → r ≡ On (walk_of v' Unsplit)
-    → TokenTurned statements unsplit is_semicolon unasked W (walk_of v Unsplit) b r W'
+    → TokenTurned statements unsplit is_semicolon unasked W (walk_of v Unsplit) b (Ok r) W'
 unfolding count size waits
 unsplit-kept {W} {W'} e el er =
     rw (er, el)

@@ -17,14 +17,15 @@ use Rattle.levels.specs.{Passes.{walk_of, moved_to, waits}, Items.{BackArray, Ah
 use Rattle.levels.specs.{Sides.{EndedAt, Ended, nothing, statement}, Failures.{leading_semicolon}}
 use Rattle.levels.specs.{Turns.{Within, CanTurn, TurnTo, goes, fails, Turned}, declared.failure.Failure.TheVariants.{LeadingSemicolon}}
 use Rattle.levels.specs.{declared.items.Found.TheVariants.{Token as Leaf}, declared.turns.Pass.TheVariants.{Split as SplitAt}}
-use Rattle.levels.specs.{declared.turns.Turn.{Turn}, declared.turns.Turn.TheVariants.{On, Fail}}
+use Rattle.levels.specs.{declared.turns.Turn.{Turn}, declared.turns.Turn.TheVariants.{On}}
+use Rattle.std.specs.Prelude.{Ok, Err}
 use Rattle.levels.proofs.{Reading.{ahead-le, ahead-keep, back-array-keep}, Ended.{ended-le, ended-at-keep}}
 use Rattle.passes.specs.Statements.{Grouped, ListMade, there, begun, CanEnd, SemicolonTo, leading, again, ended}
 use Rattle.passes.proofs.StatementLaws.{semicolon-class, step_end, walk-on, walk-stop, earliest, open_on, passed-counts, passed-open}
 use Rattle.passes.proofs.StatementLaws.{Moved, moved_same, same-list}
 use Rattle.passes.proofs.StatementGroup.{in_order_lem, grouped-tree, grouped-same, grouped-stored, grouped-long}
 use Rattle.passes.proofs.StatementSplit.{ended-rebase, Pending, pending-passed, SplitView, splits, split-view, seek-split}
-use Rattle.passes.proofs.StatementSplit.{split-sides, open-items}
+use Rattle.passes.proofs.{StatementSplit.{split-sides, open-items}, TurnLaws.{Step}}
 
 -- ---- what `semicolon` asks
 
@@ -58,7 +59,7 @@ can-end-give {W1 = W1} {l = l} {item = item} {done = done} from e n g m =
 pub semicolon-ended : {W W1 W' : List ℕ} {l l' : Items} {item done : ℕ} {r : Turn} (from : ℕ) → from ≡ done → l.write ≢ from
     → CanEnd W l item done → ListMade W item done W1
     → Grouped W1 item (l.base + from) (l.write - from) W' → l' ≡ moved_to l l.read (from + 1) → r ≡ On (walk_of l' (SplitAt (done + 1)))
-    → SemicolonTo W l item done r W'
+    → SemicolonTo W l item done (Ok r) W'
 semicolon-ended {W} {W1} {W'} {l} {l'} {item} {done} {r} from e n g m w moved is =
     let h : done < l.write = omega (arith, g.from) in
     let w' : Grouped W1 item (l.base + done) (l.write - done) W' =
@@ -67,7 +68,7 @@ semicolon-ended {W} {W1} {W'} {l} {l'} {item} {done} {r} from e n g m w moved is
     =
     is ∙ ap (λ (x : Items). On (walk_of x (SplitAt (done + 1)))) moved
     ∙ ap (λ (x : ℕ). On (walk_of (moved_to l l.read (x + 1)) (SplitAt (done + 1)))) e in
-    subst (λ (x : Turn). SemicolonTo W l item done x W') (sym same) (ended h m w')
+    subst (λ (x : Turn). SemicolonTo W l item done (Ok x) W') (sym same) (ended h m w')
 
 -- ---- the list at a semicolon
 
@@ -327,7 +328,7 @@ module _ {W W' X : List ℕ} {lo hi n b : ℕ} {l l' : Items} (small : length W 
 
 turn-leading : {W X : List ℕ} {lo hi n b : ℕ} {l l' : Items} {q : Token} {done d rest : Forest} → Stopped W X lo hi l l' n b q done d rest
     → l'.write ≡ 0
-    → TurnTo statements W X lo hi (walk_of l (SplitAt n)) (open_on q done d) rest (Fail (LeadingSemicolon b))
+    → TurnTo statements W X lo hi (walk_of l (SplitAt n)) (open_on q done d) rest (Err (LeadingSemicolon b))
 turn-leading {q = q} {done = done} v h =
     let at = v.at in
     let none = back-nil at.items.rep (omega (arith, at.items.count, at.reached)) in
@@ -338,7 +339,7 @@ turn-leading {q = q} {done = done} v h =
 
 turn-again : {W X : List ℕ} {lo hi n b : ℕ} {l l' : Items} {q : Token} {done d rest : Forest} → Stopped W X lo hi l l' n b q done d rest
     → l'.write ≢ 0 → l'.write ≡ n
-    → TurnTo statements W X lo hi (walk_of l (SplitAt n)) (open_on q done d) rest (On (walk_of l' (SplitAt n)))
+    → TurnTo statements W X lo hi (walk_of l (SplitAt n)) (open_on q done d) rest (Ok (On (walk_of l' (SplitAt n))))
 unfolding waits count size
 turn-again {n = n} {l' = l'} {q = q} {done = done} v h e =
     let at = v.at in
@@ -364,7 +365,7 @@ module _ {W W1 W' X : List ℕ} {lo hi n b : ℕ} {l l' : Items} {q : Token} {do
     (h : n < l'.write) (made : ListMade W b n W1) (g : Grouped W1 b (l'.base + n) (l'.write - n) W') where
   ended-turn : (f : Forest) → v.at.d ≡ f
       → TurnTo statements W' X lo hi (walk_of l (SplitAt n))
-      (open_on q done d) rest (On (walk_of (moved_to l' l'.read (n + 1)) (SplitAt (n + 1))))
+      (open_on q done d) rest (Ok (On (walk_of (moved_to l' l'.read (n + 1)) (SplitAt (n + 1)))))
   unfolding waits count size is_nil
   ended-turn nil e = absurd (omega (arith, v.at.items.count, back_count v.at.items.rep, v.at.reached, ap count e))
   ended-turn (node t ts f) e =
@@ -422,7 +423,7 @@ module _ {W W1 W' X : List ℕ} {lo hi n b : ℕ} {l l' : Items} {q : Token} {do
         grouped-long g ∙ list-long made,
       )
 
-stopped-turn : {W W' X : List ℕ} {lo hi n b : ℕ} {l l' : Items} {q : Token} {done d rest : Forest} {r : Turn}
+stopped-turn : {W W' X : List ℕ} {lo hi n b : ℕ} {l l' : Items} {q : Token} {done d rest : Forest} {r : Step}
     → Stopped W X lo hi l l' n b q done d rest → SemicolonTo W l' b n r W'
     → TurnTo statements W' X lo hi (walk_of l (SplitAt n)) (open_on q done d) rest r
 stopped-turn v (leading h) = turn-leading v h
@@ -430,7 +431,7 @@ stopped-turn v (again h e) = turn-again v h e
 stopped-turn v (ended h made g) = ended-turn v h made g v.at.d refl
 
 -- what the turn changes
-stopped-within : {W W' X : List ℕ} {lo hi n b : ℕ} {l l' : Items} {q : Token} {done d rest : Forest} {r : Turn}
+stopped-within : {W W' X : List ℕ} {lo hi n b : ℕ} {l l' : Items} {q : Token} {done d rest : Forest} {r : Step}
     → Stopped W X lo hi l l' n b q done d rest → SemicolonTo W l' b n r W'
     → ((j : ℕ) → Free X lo hi j → (j < l.base) ⊎ (l.base + l.len ≤ j) → wd W' j ≡ wd W j) × (length W' ≡ length W)
 stopped-within v (leading h) = (λ j f o. refl, refl)
@@ -445,19 +446,19 @@ module _ {W W' : List ℕ} {l l' : Items} {n b : ℕ} (g : Sought W l 0x2 (Leaf 
   pub can-end : CanTurn W (walk_of l (SplitAt n)) → CanEnd W' l' b n
   can-end h = split-can-end h.small (split-view h.holds)
 
-  split-semicolon : {X : List ℕ} {lo hi : ℕ} {κ : Kind} {s : State κ} {rest : Forest} {r : Turn} {W'' : List ℕ} → length W < 2 ^ 32
+  split-semicolon : {X : List ℕ} {lo hi : ℕ} {κ : Kind} {s : State κ} {rest : Forest} {r : Step} {W'' : List ℕ} → length W < 2 ^ 32
       → SemicolonTo W' l' b n r W'' → SplitView W X lo hi l n κ s rest
       → TurnTo κ W'' X lo hi (walk_of l (SplitAt n)) s rest r
   split-semicolon small i (splits v w e u le p t below within) = stopped-turn (stopped small g v w e u le p t below within) i
 
-  semicolon-within : {X : List ℕ} {lo hi : ℕ} {κ : Kind} {s : State κ} {rest : Forest} {r : Turn} {W'' : List ℕ} → length W < 2 ^ 32
+  semicolon-within : {X : List ℕ} {lo hi : ℕ} {κ : Kind} {s : State κ} {rest : Forest} {r : Step} {W'' : List ℕ} → length W < 2 ^ 32
       → SemicolonTo W' l' b n r W'' → SplitView W X lo hi l n κ s rest
       → Within W W'' X lo hi l
   semicolon-within small i (splits v w e u le p t below within) =
       let z = stopped-within (stopped small g v w e u le p t below within) i in
       record { kept = λ j f o. z.0 j f o ∙ g.same j (⊎_elim (λ x. inl (omega arith)) (λ x. inr x) o); long = z.1 ∙ g.long }
 
-  pub turned-split-semicolon : {r : Turn} {W'' : List ℕ} → SemicolonTo W' l' b n r W'' → Turned W (walk_of l (SplitAt n)) r W''
+  pub turned-split-semicolon : {r : Step} {W'' : List ℕ} → SemicolonTo W' l' b n r W'' → Turned W (walk_of l (SplitAt n)) r W''
   turned-split-semicolon i =
       record {
         to = λ h. split-semicolon h.small i (split-view h.holds);

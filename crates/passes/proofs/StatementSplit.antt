@@ -15,6 +15,7 @@ use Rattle.levels.specs.Sides.{StatementSide, closed, current, EndedAt, Ended, n
 use Rattle.levels.specs.{Sides.{Agrees, Sides, Holds}, Turns.{Within, CanTurn, TurnTo, goes, enters, ends, Turned, afresh}}
 use Rattle.levels.specs.{declared.items.Found.TheVariants.{Nothing, Children}, declared.turns.Pass.TheVariants.{Split as SplitAt}}
 use Rattle.levels.specs.{declared.turns.Turn.{Turn}, declared.turns.Turn.TheVariants.{Over}}
+use Rattle.std.specs.Prelude.{Ok}
 use Rattle.levels.proofs.{Reading.{ahead-le, ahead-keep, array-put}, Ended.{ended-le, ended-at-keep}, States.{sides-of}}
 use Rattle.passes.specs.Statements.{InnerTo, entered, kept}
 use Rattle.passes.proofs.StatementLaws.{semicolon-class, enter-in, enter-over, walk-on, walk-in, earliest, open_on, gather-open}
@@ -160,13 +161,13 @@ pending-passed q done passed p e = sym (passed-split passed) ∙ p e
 
 module _ {W W' X : List ℕ} {lo hi n : ℕ} {l l' : Items} (small : length W < 2 ^ 32) where
   pub split-over : {κ : Kind} {s : State κ} {rest : Forest} → Sought W l 0x2 (Nothing l') W' → SplitView W X lo hi l n κ s rest
-      → TurnTo κ W' X lo hi (walk_of l (SplitAt n)) s rest (Over (walk_of l' (SplitAt n)))
+      → TurnTo κ W' X lo hi (walk_of l (SplitAt n)) s rest (Ok (Over (walk_of l' (SplitAt n))))
   unfolding waits
   split-over g (splits {q = q} {done = done} {d = d} {rest = rest} {m = m} v b e u le p t below within) =
       go (g.to (seek-split v b e u le t below within small) is_semicolon semicolon-class)
     where
       go : SoughtTo W' X l (l.base + n) m hi is_semicolon d rest (Nothing l')
-          → TurnTo statements W' X lo hi (walk_of l (SplitAt n)) (open_on q done d) rest (Over (walk_of l' (SplitAt n)))
+          → TurnTo statements W' X lo hi (walk_of l (SplitAt n)) (open_on q done d) rest (Ok (Over (walk_of l' (SplitAt n))))
       go (Found-None {d' = d'} moved behind passed seen) =
           let mv : Moved l l' = moved_same moved in
           let mb = mv.base in let ml = mv.len in let long = g.long in
@@ -187,14 +188,14 @@ module _ {W W' X : List ℕ} {lo hi n : ℕ} {l l' : Items} (small : length W < 
 
   pub split-inner : {κ : Kind} {s : State κ} {rest : Forest} {b : ℕ} {r : Turn} {W'' : List ℕ} → Sought W l 0x2 (Children l' b) W'
       → InnerTo W' l' b (SplitAt n) r W'' → SplitView W X lo hi l n κ s rest
-      → TurnTo κ W'' X lo hi (walk_of l (SplitAt n)) s rest r
+      → TurnTo κ W'' X lo hi (walk_of l (SplitAt n)) s rest (Ok r)
   unfolding waits count size
   split-inner {b = b} {r = r} {W'' = W''} g i (splits {q = q} {done = done} {d = d} {rest = rest} {m = m} v w e u le p t below within) =
       go i (g.to (seek-split v w e u le t below within small) is_semicolon semicolon-class)
     where
       go : {r : Turn} {W'' : List ℕ} → InnerTo W' l' b (SplitAt n) r W''
           → SoughtTo W' X l (l.base + n) m hi is_semicolon d rest (Children l' b)
-          → TurnTo statements W'' X lo hi (walk_of l (SplitAt n)) (open_on q done d) rest r
+          → TurnTo statements W'' X lo hi (walk_of l (SplitAt n)) (open_on q done d) rest (Ok r)
       go (entered is_in) (tree {d' = d'} {rest' = rest'} {cs = cs} {a = a} {m = hm} {k = k} moved before passed full unfree t seen) =
           let mv : Moved l l' = moved_same moved in
           let mb = mv.base in let ml = mv.len in let long = g.long in
@@ -269,7 +270,7 @@ module _ {W W' X : List ℕ} {lo hi n : ℕ} {l l' : Items} (small : length W < 
           (omega arith, omega arith, omega arith, omega arith)
 
 module _ {W W' : List ℕ} {l l' : Items} {n : ℕ} where
-  pub turned-split-over : Sought W l 0x2 (Nothing l') W' → Turned W (walk_of l (SplitAt n)) (Over (walk_of l' (SplitAt n))) W'
+  pub turned-split-over : Sought W l 0x2 (Nothing l') W' → Turned W (walk_of l (SplitAt n)) (Ok (Over (walk_of l' (SplitAt n)))) W'
   turned-split-over g = record { to = λ h. split-over h.small g (split-view h.holds); within = λ h. sought-within g }
 
   pub split-room : {b : ℕ} → Sought W l 0x2 (Children l' b) W' → CanTurn W (walk_of l (SplitAt n))
@@ -290,7 +291,7 @@ module _ {W W' : List ℕ} {l l' : Items} {n : ℕ} where
       }
 
   pub turned-split-inner : {b : ℕ} {r : Turn} {W'' : List ℕ} → Sought W l 0x2 (Children l' b) W' → InnerTo W' l' b (SplitAt n) r W''
-      → Turned W (walk_of l (SplitAt n)) r W''
+      → Turned W (walk_of l (SplitAt n)) (Ok r) W''
   turned-split-inner g i =
       record {
         to = λ h. split-inner h.small g i (split-view h.holds);

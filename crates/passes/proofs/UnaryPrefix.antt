@@ -23,7 +23,8 @@ use Rattle.nodes.proofs.Trees.{one_out, tree-under, leaf-tree, leaf_first, attac
 use Rattle.nodes.proofs.Keeping.{laid_kept}
 use Rattle.levels.specs.{Passes.{walk_of, moved_to, waits}, Items.{BackArray, Ahead}, Turns.{SameList, Within, TurnTo, goes, fails}}
 use Rattle.levels.specs.declared.failure.Failure.TheVariants.{NegateWithoutOperand, NotWithoutOperand, UnknownOperation}
-use Rattle.levels.specs.{declared.turns.Pass.TheVariants.{Unary}, declared.turns.Turn.{Turn}, declared.turns.Turn.TheVariants.{On, Fail}}
+use Rattle.levels.specs.{declared.turns.Pass.TheVariants.{Unary}, declared.turns.Turn.{Turn}, declared.turns.Turn.TheVariants.{On}}
+use Rattle.std.specs.Prelude.{Ok, Err}
 use Rattle.levels.proofs.Reading.{AheadTo, item, ahead-item, ahead-end, array-put, back-array-keep, ahead-keep, ahead-le, same-within}
 use Rattle.levels.specs.Failures
 use Rattle.passes.specs.Unary.{RightList, CanTakeToken, CanTakeMinus, TokenTaken, CanPrefix, Prefixed, Added, CanSubtract, Subtracted}
@@ -153,7 +154,8 @@ same-list v read write = record { owner = refl; base = refl; len = refl; classes
 turn_on : {W' X : List ℕ} {lo l m hi read write : ℕ} {v : Items} {d d' rest : Forest} {k : Token}
     → RightList W' X lo l m hi (moved_to v read write) d' rest → read ≤ write
     → from_right (right false d) (node k nil rest) ≡ from_right (right false d') rest
-    → TurnTo unary_minus_and_not W' X lo hi (walk_of v Unary) (right false d) (node k nil rest) (On (walk_of (moved_to v read write) Unary))
+    → TurnTo unary_minus_and_not W' X lo hi (walk_of v Unary) (right false d) (node k nil rest)
+    (Ok (On (walk_of (moved_to v read write) Unary)))
 unfolding work count size waits
 turn_on {read = read} {write = write} {v = v} r h e =
     goes (same-list v read write) (right-holds r h) e (omega arith) (omega arith) (omega arith)
@@ -206,7 +208,7 @@ module _ {W : List ℕ} {v : Items} {b : ℕ} (g : CanTakeToken W v b) where
       → ((n : Token) (ns r : Forest) → from_right (right false (node n ns r)) (node g.k nil g.rest)
       ≡ from_right (right false (node g.k (node n ns nil) r)) g.rest)
       → TurnTo unary_minus_and_not W' g.X g.lo g.hi (walk_of v Unary) (right false g.d) (node g.k nil g.rest)
-      (On (walk_of v Unary))
+      (Ok (On (walk_of v Unary)))
   prefix-turn {W'} w full e =
       go
       (prefix-right g.list w (tree-out g.tree) (le_refl g.l) g.tree.low (tree-below g.tree) full behind g.tree.token
@@ -217,7 +219,7 @@ module _ {W : List ℕ} {v : Items} {b : ℕ} (g : CanTakeToken W v b) where
 
       go : {f : Forest} → TakenUnder W' g.X g.lo g.l g.l g.hi v g.k g.rest f
           → TurnTo unary_minus_and_not W' g.X g.lo g.hi (walk_of v Unary) (right false f) (node g.k nil g.rest)
-          (On (walk_of v Unary))
+          (Ok (On (walk_of v Unary)))
       go (under {n = n} {ns = ns} {r = r} list) = turn_on {read = v.read} {write = v.write} {v = v} list behind (e n ns r)
 
   pub prefix-within : {W' : List ℕ} → Prefixed W (v.base + v.write) b W' → v.write < v.len → Within W W' g.X g.lo g.hi v
@@ -244,7 +246,7 @@ module _ {W : List ℕ} {v : Items} {b : ℕ} (g : CanTakeToken W v b) where
   -- a token without an operand
   pub negate-fails : g.k.op ≡ Operator.negate → v.write ≡ v.len
       → TurnTo unary_minus_and_not W g.X g.lo g.hi (walk_of v Unary) (right false g.d) (node g.k nil g.rest)
-      (Fail (NegateWithoutOperand b))
+      (Err (NegateWithoutOperand b))
   unfolding work
   negate-fails m e =
       fails (Failures.negate_without_operand g.tree.token)
@@ -252,7 +254,7 @@ module _ {W : List ℕ} {v : Items} {b : ℕ} (g : CanTakeToken W v b) where
 
   pub not-fails : (g.k.op ≡ Operator.negate → ⊥) → v.write ≡ v.len
       → TurnTo unary_minus_and_not W g.X g.lo g.hi (walk_of v Unary) (right false g.d) (node g.k nil g.rest)
-      (Fail (NotWithoutOperand b))
+      (Err (NotWithoutOperand b))
   unfolding work
   not-fails m e =
       fails (Failures.not_without_operand g.tree.token)
@@ -260,7 +262,7 @@ module _ {W : List ℕ} {v : Items} {b : ℕ} (g : CanTakeToken W v b) where
 
   pub not-turn : {W' : List ℕ} → (g.k.op ≡ Operator.negate → ⊥) → Prefixed W (v.base + v.write) b W' → v.write < v.len
       → TurnTo unary_minus_and_not W' g.X g.lo g.hi (walk_of v Unary) (right false g.d) (node g.k nil g.rest)
-      (On (walk_of v Unary))
+      (Ok (On (walk_of v Unary)))
   not-turn m w full = prefix-turn w full (λ n ns r. not-takes g.k g.prefix m n ns r g.rest)
 
   -- ---- a minus
@@ -269,7 +271,7 @@ module _ {W : List ℕ} {v : Items} {b : ℕ} (g : CanTakeToken W v b) where
     -- at the start
     pub first-turn : {W' : List ℕ} → Prefixed W (v.base + v.write) b W' → v.read ≡ 0
         → TurnTo unary_minus_and_not W' g.X g.lo g.hi (walk_of v Unary) (right false g.d) (node g.k nil g.rest)
-        (On (walk_of v Unary))
+        (Ok (On (walk_of v Unary)))
     first-turn w e =
         prefix-turn w full
         (λ n ns r.
@@ -299,7 +301,7 @@ module _ {W : List ℕ} {v : Items} {b : ℕ} (g : CanTakeToken W v b) where
       pub operator-turn : {W' : List ℕ} → Prefixed W (v.base + v.write) b W'
           → before_minus (op_at W (wd W (v.base + (v.read - 1)))) ≡ operator
           → TurnTo unary_minus_and_not W' g.X g.lo g.hi (walk_of v Unary) (right false g.d) (node g.k nil g.rest)
-          (On (walk_of v Unary))
+          (Ok (On (walk_of v Unary)))
       operator-turn w e =
           prefix-turn w full
           (λ n ns r.
@@ -309,12 +311,12 @@ module _ {W : List ℕ} {v : Items} {b : ℕ} (g : CanTakeToken W v b) where
 
       pub unknown-fails : before_minus (op_at W (wd W (v.base + (v.read - 1)))) ≡ unknown
           → TurnTo unary_minus_and_not W g.X g.lo g.hi (walk_of v Unary) (right false g.d) (node g.k nil g.rest)
-          (Fail (UnknownOperation b (wd W (v.base + (v.read - 1)))))
+          (Err (UnknownOperation b (wd W (v.base + (v.read - 1)))))
       unfolding work
       unknown-fails e =
           with-last
           (λ f. TurnTo unary_minus_and_not W g.X g.lo g.hi (walk_of v Unary) (right false g.d) (node g.k nil f)
-          (Fail (UnknownOperation b (wd W (v.base + (v.read - 1))))))
+          (Err (UnknownOperation b (wd W (v.base + (v.read - 1))))))
           (λ p ps left a c t h s.
           fails (Failures.unknown_operation g.tree.token t.token)
           (first_done full (λ f. from_right (right false f) (node g.k nil (node p ps left)) ≡ fail (unknown_operation g.k p ∷ []))
@@ -324,12 +326,12 @@ module _ {W : List ℕ} {v : Items} {b : ℕ} (g : CanTakeToken W v b) where
       pub minus-turn : {W' : List ℕ} → Added W (wd W (v.base + (v.read - 1))) W'
           → before_minus (op_at W (wd W (v.base + (v.read - 1)))) ≡ minus
           → TurnTo unary_minus_and_not W' g.X g.lo g.hi (walk_of v Unary) (right false g.d) (node g.k nil g.rest)
-          (On (walk_of v Unary))
+          (Ok (On (walk_of v Unary)))
       unfolding work count size waits
       minus-turn {W'} w e =
           with-last
           (λ f. TurnTo unary_minus_and_not W' g.X g.lo g.hi (walk_of v Unary) (right false g.d) (node g.k nil f)
-          (On (walk_of v Unary)))
+          (Ok (On (walk_of v Unary))))
           (λ p ps left a c t h s.
           goes (same-list v v.read v.write) (right-holds (renamed-last p ps left t h s w) (omega (arith, g.gap)))
           (first_done full (λ f. from_right (right false f) (node g.k nil (node p ps left)) ≡ from_right (right false f)
@@ -470,7 +472,7 @@ module _ {W : List ℕ} {v : Items} {b : ℕ} (g : CanTakeToken W v b) where
 
       pub subtract-turn : (z : 0 < v.read) → before_minus (op_at W (wd W (v.base + (v.read - 1)))) ≡ operand
           → TurnTo unary_minus_and_not W' g.X g.lo g.hi (walk_of v Unary) (right false g.d) (node g.k nil g.rest)
-          (On (walk_of (moved_to v v.read (v.write - 1)) Unary))
+          (Ok (On (walk_of (moved_to v v.read (v.write - 1)) Unary)))
       subtract-turn z e =
           let low = g.tree.low in
           go
@@ -480,7 +482,7 @@ module _ {W : List ℕ} {v : Items} {b : ℕ} (g : CanTakeToken W v b) where
         where
           go : {f : Forest} → TakenUnder w.W2 g.X g.lo g.l (b + 1) g.hi v (bare Operator.negate g.k) g.rest f
               → TurnTo unary_minus_and_not W' g.X g.lo g.hi (walk_of v Unary) (right false f) (node g.k nil g.rest)
-              (On (walk_of (moved_to v v.read (v.write - 1)) Unary))
+              (Ok (On (walk_of (moved_to v v.read (v.write - 1)) Unary)))
           go (under {n = n} {ns = ns} {r = s} list2) =
               turn_on {v = v} (added-list list2) (omega (arith, g.gap))
               (with-last m full z
@@ -572,44 +574,44 @@ pub previous-slot : {W : List ℕ} {v : Items} {b : ℕ} → CanTakeMinus W v b 
 previous-slot c z = let own = last-slot c.token (is-minus c c.token) c.full z in omega (arith, token-room c.token)
 
 module _ {W W' : List ℕ} {v : Items} {b : ℕ} {t : Turn} (c : CanTakeMinus W v b) where
-  pub taken-first : v.read ≡ 0 → Prefixed W (v.base + v.write) b W' → t ≡ On (walk_of v Unary) → TokenTaken W v b t W'
+  pub taken-first : v.read ≡ 0 → Prefixed W (v.base + v.write) b W' → t ≡ On (walk_of v Unary) → TokenTaken W v b (Ok t) W'
   taken-first e w h = rw h (record { to = λ g. first-turn g (is-minus c g) c.full w e; within = λ g. prefix-within g w c.full })
 
   module _ (z : 0 < v.read) where
     pub taken-operator : before_minus (op_at W (wd W (v.base + (v.read - 1)))) ≡ operator → Prefixed W (v.base + v.write) b W'
-        → t ≡ On (walk_of v Unary) → TokenTaken W v b t W'
+        → t ≡ On (walk_of v Unary) → TokenTaken W v b (Ok t) W'
     taken-operator e w h =
         rw h (record { to = λ g. operator-turn g (is-minus c g) c.full z w e; within = λ g. prefix-within g w c.full })
 
     pub taken-operand : (r : Items) → before_minus (op_at W (wd W (v.base + (v.read - 1)))) ≡ operand → Subtracted W v b r W'
-        → t ≡ On (walk_of r Unary) → TokenTaken W v b t W'
+        → t ≡ On (walk_of r Unary) → TokenTaken W v b (Ok t) W'
     taken-operand r e w h =
         rw (h, w.list)
         (record { to = λ g. subtract-turn g (is-minus c g) c.full w z e; within = λ g. subtract-within g (is-minus c g) c.full w })
 
     pub taken-minus : before_minus (op_at W (wd W (v.base + (v.read - 1)))) ≡ minus → Added W (wd W (v.base + (v.read - 1))) W'
-        → t ≡ On (walk_of v Unary) → TokenTaken W v b t W'
+        → t ≡ On (walk_of v Unary) → TokenTaken W v b (Ok t) W'
     taken-minus e w h =
         rw h (record { to = λ g. minus-turn g (is-minus c g) c.full z w e; within = λ g. minus-within g (is-minus c g) c.full z w })
 
 pub taken-unknown : {W : List ℕ} {v : Items} {b : ℕ} → CanTakeMinus W v b → 0 < v.read
     → before_minus (op_at W (wd W (v.base + (v.read - 1)))) ≡ unknown
-    → TokenTaken W v b (Fail (UnknownOperation b (wd W (v.base + (v.read - 1))))) W
+    → TokenTaken W v b (Err (UnknownOperation b (wd W (v.base + (v.read - 1))))) W
 taken-unknown {W} {v} c z e =
     record { to = λ g. unknown-fails g (is-minus c g) c.full z e; within = λ g. same-within }
 
 module _ {W : List ℕ} {v : Items} {b : ℕ} where
-  pub taken-negate-alone : op_at W b ≡ Operator.negate → v.write ≡ v.len → TokenTaken W v b (Fail (NegateWithoutOperand b)) W
+  pub taken-negate-alone : op_at W b ≡ Operator.negate → v.write ≡ v.len → TokenTaken W v b (Err (NegateWithoutOperand b)) W
   taken-negate-alone m e =
       record { to = λ g. negate-fails g (sym (tree-op g.tree) ∙ m) e; within = λ g. same-within }
 
   module _ (m : op_at W b ≡ Operator.negate → ⊥) where
-    pub taken-not-alone : v.write ≡ v.len → TokenTaken W v b (Fail (NotWithoutOperand b)) W
+    pub taken-not-alone : v.write ≡ v.len → TokenTaken W v b (Err (NotWithoutOperand b)) W
     taken-not-alone e =
         record { to = λ g. not-fails g (λ h. m (tree-op g.tree ∙ h)) e; within = λ g. same-within }
 
     pub taken_not : {W' : List ℕ} {t : Turn} → v.write < v.len → Prefixed W (v.base + v.write) b W' → t ≡ On (walk_of v Unary)
-        → TokenTaken W v b t W'
+        → TokenTaken W v b (Ok t) W'
     taken_not full w h =
         rw h (record { to = λ g. not-turn g (λ h. m (tree-op g.tree ∙ h)) w full; within = λ g. prefix-within g w full })
 

@@ -290,9 +290,10 @@ module _ {W : List ℕ} {v : Items} {Z : List ℕ} {read write : ℕ} (s : Seeki
   sought-back-tree z leafy v' e =
       rw e (record { to = λ g. seek-back-tree (s.at g) z s.behind leafy; same = s.same; long = s.long })
 
-  pub sought-back-none : read ≡ 0 → (v' : Items) → v' ≡ moved_to v read write → SoughtBack W v (Nothing v') Z
+  pub sought-back-none : read ≡ 0 → (v' : Items) → v' ≡ moved_to v 0 write → SoughtBack W v (Nothing v') Z
   sought-back-none e v' ev =
-      rw ev (record { to = λ g. seek-back-none (s.at g) s.behind e; same = s.same; long = s.long })
+      rw (ev ∙ ap (λ (x : ℕ). moved_to v x write) (sym e))
+      (record { to = λ g. seek-back-none (s.at g) s.behind e; same = s.same; long = s.long })
 
 -- the test of an item's classes
 pub unary-test : {w u : ℕ} {t : Bool} → u ≡ w → t ≡ shares u 0x10 → shares w 0x10 ≡ t

@@ -8,7 +8,8 @@ use Rattle.levels.specs.{Passes.{walk_of, moved_to, waits}, Turns.{SameList, Wit
 use Rattle.levels.specs.{declared.items.Found.TheVariants.{Nothing, Children, Token as Leaf}, declared.turns.Pass.TheVariants.{Unary}}
 use Rattle.levels.specs.{declared.turns.Walk.{Walk}, declared.turns.Turn.{Turn}, declared.turns.Turn.TheVariants.{Enter, Over}}
 use Rattle.passes.specs.Unary.{CanSeekBack, Moved, SoughtBackTo, none, leaf, tree, SoughtBack, CanTakeToken, TokenTaken}
-use Rattle.passes.proofs.{UnaryLaws.{at-tree}, UnaryRight.{right-sides, right-holds, of-unary}}
+use Rattle.std.specs.Prelude.{Ok}
+use Rattle.passes.proofs.{TurnLaws.{Step}, UnaryLaws.{at-tree}, UnaryRight.{right-sides, right-holds, of-unary}}
 
 moved_same : (v v' : Items) → v' ≡ moved_to v v'.read v'.write → SameList (walk_of v Unary) (walk_of v' Unary)
 moved_same v v' e =
@@ -28,7 +29,7 @@ same_then v v' e s =
 module _ {W' X : List ℕ} {lo hi : ℕ} {v v' : Items} {d rest d' rest' : Forest} (e : v' ≡ moved_to v v'.read v'.write)
     (m : Moved d rest d' rest') where
   -- a turn after the items that were passed over
-  turn-after : {t : Turn} → TurnTo unary_minus_and_not W' X lo hi (walk_of v' Unary) (right false d') rest' t
+  turn-after : {t : Step} → TurnTo unary_minus_and_not W' X lo hi (walk_of v' Unary) (right false d') rest' t
       → TurnTo unary_minus_and_not W' X lo hi (walk_of v Unary) (right false d) rest t
   unfolding work waits
   turn-after (goes l h w c s t) =
@@ -43,7 +44,7 @@ module _ {W' X : List ℕ} {lo hi : ℕ} {v v' : Items} {d rest d' rest' : Fores
 -- ---- what `step` ensures
 
 -- a turn of the list of any pass that `step` is called with
-turned_by : {W W' : List ℕ} {v : Items} {t : Turn}
+turned_by : {W W' : List ℕ} {v : Items} {t : Step}
     → ((g : CanSeekBack W v) → TurnTo unary_minus_and_not W' g.X g.lo g.hi (walk_of v Unary) (right false g.d) g.rest t)
     → ((g : CanSeekBack W v) → Within W W' g.X g.lo g.hi v) → Turned W (walk_of v Unary) t W'
 turned_by {W} {W'} {v} {t} f h =
@@ -78,15 +79,15 @@ turned_by {W} {W'} {v} {t} f h =
     }
 
 over-to : {W' X : List ℕ} {lo hi : ℕ} {v v' : Items} {d rest : Forest} → SoughtBackTo W' X lo hi v d rest (Nothing v')
-    → TurnTo unary_minus_and_not W' X lo hi (walk_of v Unary) (right false d) rest (Over (walk_of v' Unary))
+    → TurnTo unary_minus_and_not W' X lo hi (walk_of v Unary) (right false d) rest (Ok (Over (walk_of v' Unary)))
 over-to {v = v} {v' = v'} (none e h list m) = unfold work waits in ends (moved_same v v' e) (right-holds list h) refl m.same
 
 pub step-over : {W W1 : List ℕ} {v v' : Items} {t : Turn} → SoughtBack W v (Nothing v') W1 → t ≡ Over (walk_of v' Unary)
-    → Turned W (walk_of v Unary) t W1
+    → Turned W (walk_of v Unary) (Ok t) W1
 step-over f e = rw e (turned_by (λ g. over-to (f.to g)) (λ g. record { kept = λ j h o. f.same j o; long = f.long }))
 
 enter-to : {W' X : List ℕ} {lo hi b : ℕ} {v v' : Items} {d rest : Forest} → SoughtBackTo W' X lo hi v d rest (Children v' b)
-    → TurnTo unary_minus_and_not W' X lo hi (walk_of v Unary) (right false d) rest (Enter (walk_of v' Unary) b)
+    → TurnTo unary_minus_and_not W' X lo hi (walk_of v Unary) (right false d) rest (Ok (Enter (walk_of v' Unary) b))
 unfolding work waits begins count size
 enter-to {v = v} {v' = v'} (tree {d' = d'} {rest' = rest'} {cs = cs} {l = l} {k = k} e h list full t m) =
     enters (moved_same v v' e) (record { sides = right-sides list; framed = h }) t full (afresh refl (le_refl l))
@@ -94,7 +95,7 @@ enter-to {v = v} {v' = v'} (tree {d' = d'} {rest' = rest'} {cs = cs} {l = l} {k 
     (omega (arith, m.fewer, m.smaller)) (omega arith)
 
 pub step-enter : {W W1 : List ℕ} {v v' : Items} {b : ℕ} {t : Turn} → SoughtBack W v (Children v' b) W1 → t ≡ Enter (walk_of v' Unary) b
-    → Turned W (walk_of v Unary) t W1
+    → Turned W (walk_of v Unary) (Ok t) W1
 step-enter f e = rw e (turned_by (λ g. enter-to (f.to g)) (λ g. record { kept = λ j h o. f.same j o; long = f.long }))
 
 taken-by : {W' X : List ℕ} {lo hi b : ℕ} {v v' : Items} {d rest : Forest} → SoughtBackTo W' X lo hi v d rest (Leaf v' b)
@@ -105,14 +106,14 @@ taken-by {X = X} {lo = lo} {hi = hi} (leaf {d' = d'} {rest' = rest'} {l = l} {m 
 pub token-found : {W W1 : List ℕ} {v v' : Items} {b : ℕ} → CanSeekBack W v → SoughtBack W v (Leaf v' b) W1 → CanTakeToken W1 v' b
 token-found g f = taken-by (f.to g)
 
-token-to : {W1 W' X : List ℕ} {lo hi b : ℕ} {v v' : Items} {d rest : Forest} {t : Turn} → SoughtBackTo W1 X lo hi v d rest (Leaf v' b)
+token-to : {W1 W' X : List ℕ} {lo hi b : ℕ} {v v' : Items} {d rest : Forest} {t : Step} → SoughtBackTo W1 X lo hi v d rest (Leaf v' b)
     → TokenTaken W1 v' b t W'
     → TurnTo unary_minus_and_not W' X lo hi (walk_of v Unary) (right false d) rest t
 token-to {X = X} {lo = lo} {hi = hi} (leaf {d' = d'} {rest' = rest'} {l = l} {m = n} {k = k} e h list p t m) taken =
     turn-after e m
     (taken.to (record { X = X; lo = lo; l = l; m = n; hi = hi; d = d'; rest = rest'; k = k; list = list; tree = t; prefix = p; gap = h }))
 
-token-in : {W W1 W' X : List ℕ} {lo hi b : ℕ} {v v' : Items} {d rest : Forest} {t : Turn} → Within W W1 X lo hi v
+token-in : {W W1 W' X : List ℕ} {lo hi b : ℕ} {v v' : Items} {d rest : Forest} {t : Step} → Within W W1 X lo hi v
     → SoughtBackTo W1 X lo hi v d rest (Leaf v' b) → TokenTaken W1 v' b t W'
     → Within W W' X lo hi v
 token-in {W} {W1} {W'} {X} {lo} {hi} {v = v} {v' = v'} w (leaf {d' = d'} {rest' = rest'} {l = l} {m = n} {k = k} e h list p t m) taken =
@@ -122,7 +123,7 @@ token-in {W} {W1} {W'} {X} {lo} {hi} {v = v} {v' = v'} w (leaf {d' = d'} {rest' 
     (record { X = X; lo = lo; l = l; m = n; hi = hi; d = d'; rest = rest'; k = k; list = list; tree = t; prefix = p; gap = h }) in
     record { kept = λ j f o. later.kept j f (rw (same.base, same.len) o) ∙ w.kept j f o; long = later.long ∙ w.long }
 
-pub step-token : {W W1 W' : List ℕ} {v v' : Items} {b : ℕ} {t : Turn} → SoughtBack W v (Leaf v' b) W1 → TokenTaken W1 v' b t W'
+pub step-token : {W W1 W' : List ℕ} {v v' : Items} {b : ℕ} {t : Step} → SoughtBack W v (Leaf v' b) W1 → TokenTaken W1 v' b t W'
     → Turned W (walk_of v Unary) t W'
 step-token f taken =
     turned_by (λ g. token-to (f.to g) taken) (λ g. token-in (record { kept = λ j h o. f.same j o; long = f.long }) (f.to g) taken)

@@ -1,5 +1,6 @@
 -- What the array pass's own functions ask and ensure, word by word; the laws of proofs/ lift it to trees.
-use Rattle.std.specs.Prelude.{ℕ, ◌+◌, ◌≤◌, ◌<◌, ◌≡◌, ◌≢◌, ◌⊎◌, true, false, List, [], ◌∷◌, length, set}
+use Rattle.std.specs.Prelude.{ℕ, ◌+◌, ◌≤◌, ◌<◌, ◌≡◌, ◌≢◌, ◌⊎◌, true, false, List, [], ◌∷◌, length, set, Option, None, Some, unwrap_or}
+use Rattle.std.specs.Prelude.{Result, Ok, Err}
 use Rattle.molang.specs.Operator.{left_bracket, array_variable, array}
 use Rattle.molang.specs.Calls.{unindexed}
 use Rattle.molang.specs.Free.{is_array_name}
@@ -12,10 +13,11 @@ use Rattle.nodes.specs.Slots.{op_at, is_leaf_at, is_token_at}
 use Rattle.nodes.specs.Children.{some_notes}
 use Rattle.nodes.specs.declared.frames.List.{List as Items}
 use Rattle.levels.specs.Passes.{walk_of, moved_to}
+use Rattle.levels.specs.declared.failure.Failure.{Failure}
 use Rattle.levels.specs.declared.failure.Failure.TheVariants.{EmptyArrayIndex}
 use Rattle.levels.specs.declared.turns.Pass.TheVariants.{Arrays}
 use Rattle.levels.specs.declared.turns.Turn.{Turn}
-use Rattle.levels.specs.declared.turns.Turn.TheVariants.{Enter, Fail}
+use Rattle.levels.specs.declared.turns.Turn.TheVariants.{Enter}
 use Rattle.passes.specs.TokenTurns.{TokenTurned, unasked}
 
 -- No slot of the first list is one of the second.
@@ -77,11 +79,13 @@ pub record CanLend (W : List ℕ) (a b : ℕ) : Type 0 where
   pub contents : slot_end (first_at W b) ≤ length W
 
 -- Nothing is lent; or the array's last child, a bare name, is taken away from it and is an array itself.
-pub data Lent (W : List ℕ) (a b r : ℕ) (W' : List ℕ) : Type 0 where
-  nothing : r ≡ 0 → W' ≡ W → (first_at W a ≡ 0) ⊎ ((is_token_at W (first_at W a) array_variable ≡ false) ⊎ (op_at W (first_at W b) ≢ left_bracket))
+pub data Lent (W : List ℕ) (a b : ℕ) (r : Option ℕ) (W' : List ℕ) : Type 0 where
+  nothing : r ≡ None → W' ≡ W
+      → (first_at W a ≡ 0) ⊎ ((is_token_at W (first_at W a) array_variable ≡ false) ⊎ (op_at W (first_at W b) ≢ left_bracket))
       → Lent W a b r W'
-  name : {W1 : List ℕ} → r ≢ 0 → r ≡ first_at W a → is_token_at W r array_variable ≡ true → op_at W (first_at W b) ≡ left_bracket
-      → W1 ≡ set W (first_word a) (next_at W r) → W' ≡ set W1 (slot_start r) (with_operator (operator_word_at W1 r) array) → Lent W a b r W'
+  name : {n : ℕ} {W1 : List ℕ} → r ≡ Some n → n ≢ 0 → n ≡ first_at W a → is_token_at W n array_variable ≡ true
+      → op_at W (first_at W b) ≡ left_bracket
+      → W1 ≡ set W (first_word a) (next_at W n) → W' ≡ set W1 (slot_start n) (with_operator (operator_word_at W1 n) array) → Lent W a b r W'
 
 -- ---- `array_index`
 
@@ -91,13 +95,14 @@ pub record CanIndex (W : List ℕ) (v : Items) (b a : ℕ) : Type 0 where
   pub lends : CanLend W a b
 
 -- The index is empty, or it is entered, with the array that `lend_name` lends to its contents, if any.
-pub data Indexed (W : List ℕ) (v : Items) (b a : ℕ) (r : Turn) (W' : List ℕ) : Type 0 where
-  empty : is_leaf_at W b ≡ true → W' ≡ W → r ≡ Fail (EmptyArrayIndex a b) → Indexed W v b a r W'
-  opens : {lent : ℕ} → is_leaf_at W b ≡ false → Lent W a b lent W' → r ≡ Enter (walk_of (moved_to v (v.read + 1) v.write) (Arrays a lent)) b
+pub data Indexed (W : List ℕ) (v : Items) (b a : ℕ) (r : Result Turn Failure) (W' : List ℕ) : Type 0 where
+  empty : is_leaf_at W b ≡ true → W' ≡ W → r ≡ Err (EmptyArrayIndex a b) → Indexed W v b a r W'
+  opens : {lent : Option ℕ} → is_leaf_at W b ≡ false → Lent W a b lent W'
+      → r ≡ Ok (Enter (walk_of (moved_to v (v.read + 1) v.write) (Arrays a (unwrap_or lent 0))) b)
       → Indexed W v b a r W'
 
 -- ---- `array_name`
 
 -- The array pass asks nothing of the trees before a name.
-abbrev pub NameTurned : List ℕ → Items → ℕ → Turn → List ℕ → Type 0
+abbrev pub NameTurned : List ℕ → Items → ℕ → Result Turn Failure → List ℕ → Type 0
 NameTurned W v b r W' = TokenTurned arrays unindexed is_array_name unasked W (walk_of v (Arrays 0 0)) b r W'

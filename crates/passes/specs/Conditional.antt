@@ -1,7 +1,7 @@
 -- What the functions of the conditional's fold ask and ensure, by the words. In the scan the unread items stand in [0, left), the done ones
 -- in [right, len): a list of the unary pass's shape (`RightList`), which reads up to `left` and writes from `right` on.
-use Rattle.std.specs.Prelude.{ℕ, ◌+◌, ◌-◌, ◌^◌, ◌≤◌, ◌<◌, ◌≡◌, ◌≢◌, Bool, true, false, List, length, set}
-use Rattle.std.proofs.Math.Option.{Option, none, some}
+use Rattle.std.specs.Prelude.{ℕ, ◌+◌, ◌-◌, ◌^◌, ◌≤◌, ◌<◌, ◌≡◌, ◌≢◌, Bool, true, false, List, length, set, Option, None, Some}
+use Rattle.std.proofs.Math.Option as math
 use Rattle.molang.specs.Operator.{conditional, conditional_else}
 use Rattle.molang.specs.Forest.{Token, Forest}
 use Rattle.molang.specs.Conditional as definition
@@ -9,9 +9,9 @@ use Rattle.nodes.specs.Store.{wd, slot_start, slot_end, TokenAt, Kept}
 use Rattle.nodes.specs.Slots.{is_token_at}
 use Rattle.nodes.specs.Children.{AttachedTwo}
 use Rattle.nodes.specs.declared.frames.List.{List as Items}
+use Rattle.levels.specs.Passes.{moved_to}
 use Rattle.levels.specs.Items.{BackArray, Ahead}
 use Rattle.passes.specs.Unary.{RightList}
-use Rattle.passes.specs.declared.conditional.Scan.{Scan}
 
 -- A list with the unread items up to `left` and the done ones from `right` on.
 abbrev pub scan_at : ℕ → ℕ → ℕ → ℕ → Items
@@ -50,13 +50,13 @@ pub record CanDangle (W : List ℕ) (base from len : ℕ) : Type 0 where
   pub within : base + len ≤ length W
   pub small : length W < 2 ^ 32
 
--- The slot of the token, or 0.
-pub data DanglesAt (W : List ℕ) : Option Token → ℕ → Type 0 where
-  nowhere : DanglesAt W none 0
-  here : {k : Token} {s : ℕ} → 0 < s → TokenAt W s k → DanglesAt W (some k) s
+-- The slot of the token, where there is one.
+pub data DanglesAt (W : List ℕ) : math.Option Token → Option ℕ → Type 0 where
+  nowhere : DanglesAt W math.none None
+  here : {k : Token} {s : ℕ} → TokenAt W s k → DanglesAt W (math.some k) (Some s)
 
--- r is the slot of the token that the definition finds dangling, or 0.
-pub record Dangles (W : List ℕ) (base from len r : ℕ) : Type 0 where
+-- r is the slot of the token that the definition finds dangling, where there is one.
+pub record Dangles (W : List ℕ) (base from len : ℕ) (r : Option ℕ) : Type 0 where
   pub at : (g : CanDangle W base from len) → DanglesAt W (definition.dangling g.f) r
 
 -- ---- `is_else`
@@ -127,10 +127,11 @@ pub record CanFoldNext (W : List ℕ) (base len left right : ℕ) : Type 0 where
   pub two : 2 ≤ left
 
 -- One step of the scan: fewer items are unread, and the scan gives the same.
-pub record FoldedNext (W : List ℕ) (base len left right : ℕ) (r : Scan) (W' : List ℕ) : Type 0 where
-  pub to : (g : CanScan W base len left right) → ScanTo W' g.X g.lo g.hi base len g.L g.R r.left r.right
-  pub kept : (g : CanScan W base len left right) → Kept W W' g.X g.lo g.hi base (base + len)
-  pub less : r.left < left
+pub record FoldedNext (W : List ℕ) (v r : Items) (W' : List ℕ) : Type 0 where
+  pub to : (g : CanScan W v.base v.len v.read v.write) → ScanTo W' g.X g.lo g.hi v.base v.len g.L g.R r.read r.write
+  pub kept : (g : CanScan W v.base v.len v.read v.write) → Kept W W' g.X g.lo g.hi v.base (v.base + v.len)
+  pub moved : r ≡ moved_to v r.read r.write
+  pub less : r.read < v.read
   pub long : length W' ≡ length W
 
 -- ---- `fold_conditionals`

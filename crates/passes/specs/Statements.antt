@@ -1,5 +1,5 @@
 -- What the statement pass's own functions ask and ensure, word by word; the laws of proofs/ lift it to trees.
-use Rattle.std.specs.Prelude.{ℕ, ◌+◌, ◌-◌, ◌^◌, ◌≤◌, ◌<◌, ◌≢◌, ◌≡◌, Bool, true, false, not, List, length, set}
+use Rattle.std.specs.Prelude.{ℕ, ◌+◌, ◌-◌, ◌^◌, ◌≤◌, ◌<◌, ◌≢◌, ◌≡◌, Bool, true, false, not, List, length, set, Result, Ok, Err}
 use Rattle.molang.specs.Operator.{semicolon}
 use Rattle.molang.specs.Statements.{is_entered}
 use Rattle.molang.specs.Free.{clear, is_semicolon}
@@ -9,11 +9,12 @@ use Rattle.nodes.specs.Children.{CanGive, Given}
 use Rattle.nodes.specs.declared.frames.List.{List as Items}
 use Rattle.levels.specs.Passes.{walk_of, moved_to}
 use Rattle.levels.specs.Turns.{CanStart}
+use Rattle.levels.specs.declared.failure.Failure.{Failure}
 use Rattle.levels.specs.declared.failure.Failure.TheVariants.{LeadingSemicolon}
 use Rattle.levels.specs.declared.turns.Pass.{Pass}
 use Rattle.levels.specs.declared.turns.Pass.TheVariants.{Split as SplitAt}
 use Rattle.levels.specs.declared.turns.Turn.{Turn}
-use Rattle.levels.specs.declared.turns.Turn.TheVariants.{On, Enter, Fail}
+use Rattle.levels.specs.declared.turns.Turn.TheVariants.{On, Enter}
 
 -- ---- `has_semicolon`
 
@@ -56,11 +57,11 @@ pub record CanEnd (W : List ℕ) (l : Items) (item done : ℕ) : Type 0 where
   pub give : done < l.write → CanGive W item (l.base + done) (l.write - done)
 
 -- The semicolon stands first, or after another, or ends a statement.
-pub data SemicolonTo (W : List ℕ) (l : Items) (item done : ℕ) : Turn → List ℕ → Type 0 where
-  leading : l.write ≡ 0 → SemicolonTo W l item done (Fail (LeadingSemicolon item)) W
-  again : l.write ≢ 0 → l.write ≡ done → SemicolonTo W l item done (On (walk_of l (SplitAt done))) W
+pub data SemicolonTo (W : List ℕ) (l : Items) (item done : ℕ) : Result Turn Failure → List ℕ → Type 0 where
+  leading : l.write ≡ 0 → SemicolonTo W l item done (Err (LeadingSemicolon item)) W
+  again : l.write ≢ 0 → l.write ≡ done → SemicolonTo W l item done (Ok (On (walk_of l (SplitAt done)))) W
   ended : {W1 W' : List ℕ} → done < l.write → ListMade W item done W1 → Grouped W1 item (l.base + done) (l.write - done) W'
-      → SemicolonTo W l item done (On (walk_of (moved_to l l.read (done + 1)) (SplitAt (done + 1)))) W'
+      → SemicolonTo W l item done (Ok (On (walk_of (moved_to l l.read (done + 1)) (SplitAt (done + 1))))) W'
 
 -- ---- `end_open`
 

@@ -1,6 +1,6 @@
 -- A level that goes from the left has read an item of its list: what the functions on that item ask and ensure. The trees of d are done,
 -- those of `rest` unread; the item's own tree stands between the two.
-use Rattle.std.specs.Prelude.{ℕ, ◌+◌, ◌^◌, ◌≤◌, ◌<◌, ◌≡◌, Bool, true, List, length}
+use Rattle.std.specs.Prelude.{ℕ, ◌+◌, ◌^◌, ◌≤◌, ◌<◌, ◌≡◌, Bool, true, List, length, Result}
 use Rattle.molang.specs.Operator.{is_one_of}
 use Rattle.molang.specs.Forest.{Token, Forest, nil, node}
 use Rattle.molang.specs.Level.{gathered}
@@ -14,6 +14,7 @@ use Rattle.ops.specs.declared.classes.TokenClasses.{TokenClasses}
 use Rattle.levels.specs.Passes.{walk_of, Covers}
 use Rattle.levels.specs.Items.{BackArray, Ahead}
 use Rattle.levels.specs.Turns.{Within, TurnTo}
+use Rattle.levels.specs.declared.failure.Failure.{Failure}
 use Rattle.levels.specs.declared.turns.Pass.{Pass}
 use Rattle.levels.specs.declared.turns.Pass.TheVariants.{Calls, MathCalls, Unsplit, Split, Arrays, Unary, Binary, Conditional, Returns}
 use Rattle.levels.specs.declared.turns.Walk.{Walk}
@@ -42,8 +43,8 @@ pub record AtToken (W : List ℕ) (l : Items) (b : ℕ) : Type 0 where
   pub item : AtItem W X l b lo hi d k nil rest
 
 -- The turn goes on from there, where the token is one of the pass (P) and the trees before it are as the pass leaves them (good).
-pub record TokenTurned (κ : Kind) (idle : Forest → State κ) (P : ℕ → Bool) (good : Forest → Bool) (W : List ℕ) (w : Walk) (b : ℕ) (r : Turn)
-    (W' : List ℕ) : Type 0 where
+pub record TokenTurned (κ : Kind) (idle : Forest → State κ) (P : ℕ → Bool) (good : Forest → Bool) (W : List ℕ) (w : Walk) (b : ℕ)
+    (r : Result Turn Failure) (W' : List ℕ) : Type 0 where
   pub to : (g : AtToken W w.list b) → P g.k.op ≡ true → good g.d ≡ true
       → TurnTo κ W' g.X g.lo g.hi w (idle g.d) (node g.k nil g.rest) r
   pub within : (g : AtToken W w.list b) → Within W W' g.X g.lo g.hi w.list
@@ -53,15 +54,15 @@ abbrev pub unasked : Forest → Bool
 unasked d = true
 
 -- The turn of `return`.
-abbrev pub ReturnTurned : List ℕ → Items → ℕ → Turn → List ℕ → Type 0
+abbrev pub ReturnTurned : List ℕ → Items → ℕ → Result Turn Failure → List ℕ → Type 0
 ReturnTurned W l b r W' = TokenTurned returns gathered is_return unasked W (walk_of l Returns) b r W'
 
 -- The turn of a call or of a math call.
-abbrev pub CallTurned : CallKind → Pass → List ℕ → Items → ℕ → Turn → List ℕ → Type 0
+abbrev pub CallTurned : CallKind → Pass → List ℕ → Items → ℕ → Result Turn Failure → List ℕ → Type 0
 CallTurned kind p W l b r W' = TokenTurned (calls kind) gathered (is_call kind) unasked W (walk_of l p) b r W'
 
 -- The turn of an operator of a binary level, before which no other of the level is left.
-abbrev pub LevelTurned : List ℕ → TokenClasses → List ℕ → Items → ℕ → Turn → List ℕ → Type 0
+abbrev pub LevelTurned : List ℕ → TokenClasses → List ℕ → Items → ℕ → Result Turn Failure → List ℕ → Type 0
 LevelTurned ops classes W l b r W' =
     TokenTurned (binary ops) gathered (is_one_of ops) (clear (is_one_of ops)) W (walk_of l (Binary classes 0)) b r W'
 
@@ -97,5 +98,5 @@ OfLevel T (Conditional tokens) = Unit {0}
 OfLevel T Returns = T returns gathered is_return unasked
 
 -- The turn of a token of the pass.
-pub record TokenOf (p : Pass) (W : List ℕ) (l : Items) (b : ℕ) (r : Turn) (W' : List ℕ) : Type 0 where
+pub record TokenOf (p : Pass) (W : List ℕ) (l : Items) (b : ℕ) (r : Result Turn Failure) (W' : List ℕ) : Type 0 where
   pub turned : OfLevel (λ κ idle P good. TokenTurned κ idle P good W (walk_of l p) b r W') p

@@ -1,7 +1,7 @@
 -- What the functions of the unary pass ask and ensure. The unread items stand at the front of the list's words, and the last of them is
 -- read first. The done ones stand in order at the end of the words.
 use Rattle.words.specs.Fields.{with_operator}
-use Rattle.std.specs.Prelude.{ℕ, ◌+◌, ◌-◌, ◌^◌, ◌≤◌, ◌<◌, ◌≡◌, ◌≢◌, ◌⊎◌, true, false, List, length, set}
+use Rattle.std.specs.Prelude.{ℕ, ◌+◌, ◌-◌, ◌^◌, ◌≤◌, ◌<◌, ◌≡◌, ◌≢◌, ◌⊎◌, true, false, List, length, set, Result}
 use Rattle.molang.specs.Operator.{negate, add}
 use Rattle.molang.specs.Forest.{Token, Forest, nil, node, count, size}
 use Rattle.molang.specs.Free.{is_nil, is_prefix}
@@ -13,6 +13,7 @@ use Rattle.nodes.specs.declared.frames.List.{List as Items}
 use Rattle.levels.specs.Passes.{walk_of, moved_to}
 use Rattle.levels.specs.Items.{BackArray, Ahead}
 use Rattle.levels.specs.Turns.{Within, TurnTo}
+use Rattle.levels.specs.declared.failure.Failure.{Failure}
 use Rattle.levels.specs.declared.items.Found.{Found}
 use Rattle.levels.specs.declared.items.Found.TheVariants.{Nothing, Children, Token as Leaf}
 use Rattle.levels.specs.declared.turns.Pass.TheVariants.{Unary}
@@ -91,7 +92,7 @@ pub record CanTakeMinus (W : List ℕ) (v : Items) (b : ℕ) : Type 0 where
   pub full : v.write < v.len
 
 -- The turn goes on from the token as the definition's does.
-pub record TokenTaken (W : List ℕ) (v : Items) (b : ℕ) (r : Turn) (W' : List ℕ) : Type 0 where
+pub record TokenTaken (W : List ℕ) (v : Items) (b : ℕ) (r : Result Turn Failure) (W' : List ℕ) : Type 0 where
   pub to : (g : CanTakeToken W v b)
       → TurnTo unary_minus_and_not W' g.X g.lo g.hi (walk_of v Unary) (right false g.d) (node g.k nil g.rest) r
   pub within : (g : CanTakeToken W v b) → Within W W' g.X g.lo g.hi v

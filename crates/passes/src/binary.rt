@@ -26,7 +26,8 @@ fn fold(work: &mut [u32], list: List, operator: u32, right: u32)
     work[at] = operator;
 }
 
-// The level after the children of `item`: it is the right side of the operator that waits, or goes to the done items.
+// The level after the children of `item`: it is the right side of the operator that waits, or, where that is 0 in the pass's state, goes to
+// the done items.
 pub fn resume(work: &mut [u32], list: List, item: u32, classes: TokenClasses, pending: u32) -> Walk
     requires { CanResume work.old (walk_of list (Pass.Binary classes pending)) item }
     ensures { Resumed work.old (walk_of list (Pass.Binary classes pending)) item result work.new }
@@ -47,17 +48,15 @@ pub fn resume(work: &mut [u32], list: List, item: u32, classes: TokenClasses, pe
 
 // The first leaf of `classes` at or below slot `top`, which notes one of them: `operator` has tested it. The second walk over a left side
 // with an unfolded operator fails there: such a leaf is the last child of an operator of the level, so the walk finds no right side for it.
-// The fuel is there because a loop's measure is a number of the program's variables, and the nodes that are left are known of the trees
-// that the words hold, not of the words; the proof shows that it never runs out.
+// The words bound the walk: how many nodes are left is known of the trees that they hold, not of the words. The proof shows that the
+// bound is never reached.
 pub fn first_leaf(work: &[u32], top: u32, classes: TokenClasses) -> u32
     requires { CanSearch work.now top classes.0 }
     ensures { LeafFound work.now top classes.0 result }
 {
     let mut leaf = top;
     let mut s = top;
-    let mut fuel = work.len();
-    while 0 < fuel {
-        fuel -= 1;
+    for _ in 0..work.len() {
         if s == 0 {
             return leaf;
         }
@@ -99,23 +98,28 @@ fn folded(work: &mut [u32], list: List, operator: u32, classes: TokenClasses) ->
 }
 
 // A token of the level: it needs both sides, and a left side with nothing unfolded below it.
-pub fn operator(work: &mut [u32], list: List, item: u32, classes: TokenClasses) -> Turn
+pub fn operator(
+    work: &mut [u32],
+    list: List,
+    item: u32,
+    classes: TokenClasses,
+) -> Result<Turn, Failure>
     requires { AtToken work.old list item }
     ensures { (ops : Words ℕ) → Covers classes.0 (is_one_of ops)
         → LevelTurned ops classes work.old list item result work.new }
 {
     if list.write == 0 {
-        return Turn::Fail(Failure::BinaryAtEnd(item));
+        return Err(Failure::BinaryAtEnd(item));
     }
     if list.read == list.len {
-        return Turn::Fail(Failure::BinaryAtEnd(item));
+        return Err(Failure::BinaryAtEnd(item));
     }
     let at = list.base + list.write - 1;
     let left = work[at];
     if slots::classes_of(work, left).intersects(classes) {
         let leaf = first_leaf(work, left, classes);
-        Turn::Fail(Failure::BinaryAtEnd(leaf))
+        Err(Failure::BinaryAtEnd(leaf))
     } else {
-        folded(work, list, item, classes)
+        Ok(folded(work, list, item, classes))
     }
 }

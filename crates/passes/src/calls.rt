@@ -26,31 +26,29 @@ fn called(work: &mut [u32], list: List, item: u32, arguments: u32, pass: Pass) -
 }
 
 // A query, `loop` or `for_each` takes the section `(` right after it; an empty one is an error.
-pub fn call(work: &mut [u32], list: List, item: u32) -> Turn
+pub fn call(work: &mut [u32], list: List, item: u32) -> Result<Turn, Failure>
     requires { AtToken work.old list item }
     ensures { CallTurned query_or_loop Pass.Calls work.old list item result work.new }
 {
-    let arguments = items::next_if(work, list, op::LEFT_PARENTHESIS);
-    if arguments == 0 {
-        return turns::on(items::keep(work, list, item), Pass::Calls);
-    }
+    let Some(arguments) = items::next_if(work, list, op::LEFT_PARENTHESIS) else {
+        return Ok(turns::on(items::keep(work, list, item), Pass::Calls));
+    };
     if slots::is_leaf(work, arguments) {
-        return Turn::Fail(Failure::EmptyParameterList(item, arguments));
+        return Err(Failure::EmptyParameterList(item, arguments));
     }
-    called(work, list, item, arguments, Pass::Calls)
+    Ok(called(work, list, item, arguments, Pass::Calls))
 }
 
-// A math function takes the section `(` right after it, which has to be there and may be empty.
-pub fn math_call(work: &mut [u32], list: List, item: u32) -> Turn
+// A math function takes the section `(` right after it, which has to be there and may be empty, other than a query's.
+pub fn math_call(work: &mut [u32], list: List, item: u32) -> Result<Turn, Failure>
     requires { AtToken work.old list item }
     ensures { CallTurned math Pass.MathCalls work.old list item result work.new }
 {
-    let arguments = items::next_if(work, list, op::LEFT_PARENTHESIS);
-    if arguments != 0 {
-        return called(work, list, item, arguments, Pass::MathCalls);
+    if let Some(arguments) = items::next_if(work, list, op::LEFT_PARENTHESIS) {
+        return Ok(called(work, list, item, arguments, Pass::MathCalls));
     }
     if list.read == list.len {
-        return Turn::Fail(Failure::MathAtEnd(item));
+        return Err(Failure::MathAtEnd(item));
     }
-    Turn::Fail(Failure::MathWithoutParenthesis(item))
+    Err(Failure::MathWithoutParenthesis(item))
 }

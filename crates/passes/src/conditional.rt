@@ -1,10 +1,12 @@
-// The conditional from version 5: nested lists first, then a scan of the list from the right (conditional.rs). In the scan the unread items
-// stand in [0, left), the done ones in [right, len). Leans on levels (turns, items), nodes (slots, chains) and ops.
-ghost use Rattle.levels.specs.Passes.{walk_of};
+// The conditional from version 5: nested lists first, then a scan of the list from the right (conditional.rs). The scan's unread items are
+// in [0, read), its done ones in [write, len), as those of the unary pass. Leans on levels (turns, items), nodes (slots, chains) and ops.
+ghost use Rattle.std.specs.Prelude.{◌≡◌};
+ghost use Rattle.levels.specs.Passes.{walk_of, moved_to};
 ghost use Rattle.levels.specs.Turns.{CanTurn, Turned, CanFinish, Ends};
 ghost use Rattle.passes.specs.Conditional.{CanFoldLast, FoldedLast, CanDangle, Dangles, CanLook, IsElse, CanFoldElse, ElseFolded};
 ghost use Rattle.passes.specs.Conditional.{CanFoldNext, FoldedNext, CanFold, FoldedAll};
 
+use crate::unary::keep_right;
 use levels::failure::Failure;
 use levels::turns::{Finished, Pass, Turn};
 use levels::{items, turns};
@@ -13,181 +15,154 @@ use nodes::{children, slots};
 use ops::classes::TokenClasses;
 use ops::op;
 
-// Where the scan is.
-#[derive(Clone, Copy)]
-pub struct Scan {
-    pub left: usize,
-    pub right: usize,
-}
-
 // The conditional pass before the scan, up to its next node with a `?` or a `:` below it. The items stay where they are, and
 // the tokens among them are counted. `driver::step` calls it with a list at a turn.
-pub fn step(work: &mut [u32], list: List, tokens: u32) -> Turn
+pub fn step(work: &mut [u32], list: List, tokens: u32) -> Result<Turn, Failure>
     requires { CanTurn work.old (walk_of list (Pass.Conditional tokens)) }
     ensures { Turned work.old (walk_of list (Pass.Conditional tokens)) result work.new }
 {
-    let base = list.base;
-    let len = list.len;
-    let mut read = list.read;
     let mut seen = tokens;
-    while read < len {
-        let item = work[base + read];
-        read += 1;
+    for read in list.read..list.len {
+        let item = work[list.base + read];
         if slots::classes_of(work, item).intersects(TokenClasses::CONDITIONAL) {
             if !slots::is_leaf(work, item) {
-                let after = items::moved(list, read, read - 1);
-                return turns::enter(after, Pass::Conditional { tokens: seen }, item);
+                let after = items::moved(list, read + 1, read);
+                return Ok(turns::enter(after, Pass::Conditional { tokens: seen }, item));
             }
             seen += 1;
         }
     }
-    turns::over(
-        items::moved(list, read, read),
+    Ok(turns::over(
+        items::moved(list, list.len, list.len),
         Pass::Conditional { tokens: seen },
-    )
+    ))
 }
 
 // The last unread item takes the one before it and the first done item as its children, and is done in the word of the latter.
-fn fold_last(work: &mut [u32], base: usize, left: usize, right: usize)
-    requires { CanFoldLast work.old base left right }
-    ensures { FoldedLast work.old base left right work.new }
+fn fold_last(work: &mut [u32], scan: List)
+    requires { CanFoldLast work.old scan.base scan.read scan.write }
+    ensures { FoldedLast work.old scan.base scan.read scan.write work.new }
 {
-    let item = work[base + (left - 1)];
-    let before = work[base + (left - 2)];
-    let at = base + right;
+    let item = work[scan.base + (scan.read - 1)];
+    let before = work[scan.base + (scan.read - 2)];
+    let at = scan.base + scan.write;
     let after = work[at];
     children::attach_two(work, item, before, after);
     work[at] = item;
 }
 
-// Whether the last of the `left` unread items is a `:` and a `?` stands two before it.
-fn is_else(work: &[u32], base: usize, left: usize) -> bool
-    requires { CanLook work.now base left }
-    ensures { IsElse work.now base left result }
+// Whether the last unread item is a `:` and a `?` stands two before it.
+fn is_else(work: &[u32], scan: List) -> bool
+    requires { CanLook work.now scan.base scan.read }
+    ensures { IsElse work.now scan.base scan.read result }
 {
-    if left < 3 {
+    if scan.read < 3 {
         return false;
     }
-    let colon = work[base + (left - 1)];
+    let colon = work[scan.base + (scan.read - 1)];
     if slots::is_token(work, colon, op::CONDITIONAL_ELSE) {
-        let question = work[base + (left - 3)];
+        let question = work[scan.base + (scan.read - 3)];
         return slots::is_token(work, question, op::CONDITIONAL);
     }
     false
 }
 
-// After a `?` was folded, `? folded : x` is an else-pair for the `?` on the left: the `:` takes both. Where the done items
-// then start.
-fn fold_else(work: &mut [u32], base: usize, len: usize, left: usize, right: usize) -> usize
-    requires { CanFoldElse work.old base len left right }
-    ensures { ElseFolded work.old base len left right result work.new }
+// After a `?` was folded, `? folded : x` is an else-pair for the `?` on the left: the `:` takes both.
+fn fold_else(work: &mut [u32], scan: List) -> List
+    requires { CanFoldElse work.old scan.base scan.len scan.read scan.write }
+    ensures { ElseFolded work.old scan.base scan.len scan.read scan.write result.write work.new
+        × (result ≡ moved_to scan scan.read result.write) }
 {
-    if left == 0 {
-        return right;
+    if scan.read == 0 {
+        return scan;
     }
-    if len - right < 3 {
-        return right;
+    if scan.len - scan.write < 3 {
+        return scan;
     }
-    let question = work[base + (left - 1)];
+    let question = work[scan.base + (scan.read - 1)];
     if slots::is_token(work, question, op::CONDITIONAL) {
-        let colon = work[base + (right + 1)];
+        let colon = work[scan.base + (scan.write + 1)];
         if slots::is_token(work, colon, op::CONDITIONAL_ELSE) {
-            let then = work[base + right];
-            let at = base + (right + 2);
+            let then = work[scan.base + scan.write];
+            let at = scan.base + (scan.write + 2);
             let otherwise = work[at];
             children::attach_two(work, colon, then, otherwise);
             work[at] = colon;
-            return right + 2;
+            return items::moved(scan, scan.read, scan.write + 2);
         }
-        return right;
     }
-    right
+    scan
 }
 
 // One step of the scan, with two unread items at least.
-fn fold_next(work: &mut [u32], base: usize, len: usize, left: usize, right: usize) -> Scan
-    requires { CanFoldNext work.old base len left right }
-    ensures { FoldedNext work.old base len left right result work.new }
+fn fold_next(work: &mut [u32], scan: List) -> List
+    requires { CanFoldNext work.old scan.base scan.len scan.read scan.write }
+    ensures { FoldedNext work.old scan result work.new }
 {
-    if is_else(work, base, left) {
-        fold_last(work, base, left, right);
-        return Scan {
-            left: left - 2,
-            right,
-        };
+    if is_else(work, scan) {
+        fold_last(work, scan);
+        return items::moved(scan, scan.read - 2, scan.write);
     }
-    let item = work[base + (left - 1)];
+    let item = work[scan.base + (scan.read - 1)];
     if slots::is_token(work, item, op::CONDITIONAL) {
-        fold_last(work, base, left, right);
-        let on = fold_else(work, base, len, left - 2, right);
-        return Scan {
-            left: left - 2,
-            right: on,
-        };
+        fold_last(work, scan);
+        let rest = items::moved(scan, scan.read - 2, scan.write);
+        return fold_else(work, rest);
     }
-    work[base + (right - 1)] = item;
-    Scan {
-        left: left - 1,
-        right: right - 1,
-    }
+    keep_right(work, items::moved(scan, scan.read - 1, scan.write), item)
 }
 
 // Scans a list, which has to have three items for a fold; where its done items start.
-fn fold_conditionals(work: &mut [u32], base: usize, len: usize) -> usize
-    requires { CanFold work.old base len }
-    ensures { FoldedAll work.old base len result work.new }
+fn fold_conditionals(work: &mut [u32], list: List) -> usize
+    requires { CanFold work.old list.base list.len }
+    ensures { FoldedAll work.old list.base list.len result work.new }
 {
-    if len < 3 {
+    if list.len < 3 {
         return 0;
     }
-    let mut left = len - 1;
-    let mut right = len - 1;
-    while 2 <= left {
-        let on = fold_next(work, base, len, left, right);
-        left = on.left;
-        right = on.right;
+    let mut scan = items::moved(list, list.len - 1, list.len - 1);
+    while 2 <= scan.read {
+        scan = fold_next(work, scan);
     }
-    if left == 0 {
-        return right;
+    if scan.read == 0 {
+        return scan.write;
     }
-    let first = work[base];
-    work[base + (right - 1)] = first;
-    right - 1
+    let first = work[scan.base];
+    let done = keep_right(work, scan, first);
+    done.write
 }
 
-// The first `?` or `:` among the items from `from` to `len` that nothing is under, or 0.
-fn dangling(work: &[u32], base: usize, from: usize, len: usize) -> u32
-    requires { CanDangle work.now base from len }
-    ensures { Dangles work.now base from len result }
+// The first `?` or `:` among the items from `from` on that nothing is under.
+fn dangling(work: &[u32], list: List, from: usize) -> Option<u32>
+    requires { CanDangle work.now list.base from list.len }
+    ensures { Dangles work.now list.base from list.len result }
 {
-    let mut i = from;
-    while i < len {
-        let item = work[base + i];
-        if slots::is_token(work, item, op::CONDITIONAL) {
-            return item;
-        }
-        if slots::is_token(work, item, op::CONDITIONAL_ELSE) {
-            return item;
-        }
-        i += 1;
-    }
-    0
+    work[list.base + from..list.base + list.len]
+        .iter()
+        .copied()
+        .find(|item| {
+            slots::is_token(work, *item, op::CONDITIONAL)
+                || slots::is_token(work, *item, op::CONDITIONAL_ELSE)
+        })
 }
 
 // The end of a list of the conditional pass. `driver::finish` calls it where every item is done.
-pub fn finish(work: &mut [u32], list: List, tokens: u32) -> Finished
+pub fn finish(work: &mut [u32], list: List, tokens: u32) -> Result<Finished, Failure>
     requires { CanFinish work.old (walk_of list (Pass.Conditional tokens)) }
     ensures { Ends work.old (walk_of list (Pass.Conditional tokens)) result work.new }
 {
-    let base = list.base;
-    let len = list.len;
     if tokens == 0 {
-        return Finished::At(base, len);
+        return Ok(Finished {
+            from: list.base,
+            items: list.len,
+        });
     }
-    let from = fold_conditionals(work, base, len);
-    let left = dangling(work, base, from, len);
-    if left != 0 {
-        return Finished::Fail(Failure::TernaryWithoutOperands(left));
+    let from = fold_conditionals(work, list);
+    if let Some(left) = dangling(work, list, from) {
+        return Err(Failure::TernaryWithoutOperands(left));
     }
-    Finished::At(base + from, len - from)
+    Ok(Finished {
+        from: list.base + from,
+        items: list.len - from,
+    })
 }

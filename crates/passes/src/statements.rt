@@ -23,17 +23,9 @@ fn has_semicolon(work: &[u32], list: List) -> bool
     requires { CanStart work.now list }
     ensures { HasSemicolon work.now list result }
 {
-    let base = list.base;
-    let len = list.len;
-    let mut i = 0usize;
-    while i < len {
-        let item = work[base + i];
-        i += 1;
-        if slots::is_token(work, item, op::SEMICOLON) {
-            return true;
-        }
-    }
-    false
+    work[list.base..list.base + list.len]
+        .iter()
+        .any(|item| slots::is_token(work, *item, op::SEMICOLON))
 }
 
 // The pass at the start of a list. `driver::begin` calls it where the items stand in the list's words, all unread.
@@ -70,31 +62,30 @@ fn begin_list(work: &mut [u32], item: u32, done: u32)
     requires { (slot_end (item + 2) ≤ length work.old) × (length work.old < 2 ^ 32) }
     ensures { ListMade work.old item done work.new }
 {
-    if done != 0 {
-        return;
+    if done == 0 {
+        slots::make(work, slots::second_spare(item), op::SEMICOLON, item);
     }
-    slots::make(work, slots::second_spare(item), op::SEMICOLON, item);
 }
 
 // A semicolon of a split list ends the open statement, which stands in the semicolon's slot; one before any statement is an
 // error.
-fn semicolon(work: &mut [u32], list: List, item: u32, done: u32) -> Turn
+fn semicolon(work: &mut [u32], list: List, item: u32, done: u32) -> Result<Turn, Failure>
     requires { CanEnd work.old list item done }
     ensures { SemicolonTo work.old list item done result work.new }
 {
     let from = wide(done);
     if list.write == 0 {
-        return Turn::Fail(Failure::LeadingSemicolon(item));
+        return Err(Failure::LeadingSemicolon(item));
     }
     if list.write == from {
-        return turns::on(list, Pass::Split { done });
+        return Ok(turns::on(list, Pass::Split { done }));
     }
     begin_list(work, item, done);
     end_statement(work, item, list.base + from, list.write - from);
-    turns::on(
+    Ok(turns::on(
         items::moved(list, list.read, from + 1),
         Pass::Split { done: done + 1 },
-    )
+    ))
 }
 
 // A node of a split list: `[ ]` and the arguments of queries are not searched for statements.
@@ -109,14 +100,14 @@ fn inner(work: &mut [u32], list: List, item: u32, pass: Pass) -> Turn
 }
 
 // A split list up to its next semicolon or node. `driver::step` calls it with a list at a turn.
-pub fn step(work: &mut [u32], list: List, done: u32) -> Turn
+pub fn step(work: &mut [u32], list: List, done: u32) -> Result<Turn, Failure>
     requires { CanTurn work.old (walk_of list (Pass.Split done)) }
     ensures { Turned work.old (walk_of list (Pass.Split done)) result work.new }
 {
     let found = items::next_token(work, list, TokenClasses::SEMICOLON);
     match found {
-        Found::Nothing(after) => turns::over(after, Pass::Split { done }),
-        Found::Children(after, item) => inner(work, after, item, Pass::Split { done }),
+        Found::Nothing(after) => Ok(turns::over(after, Pass::Split { done })),
+        Found::Children(after, item) => Ok(inner(work, after, item, Pass::Split { done })),
         Found::Token(after, item) => semicolon(work, after, item, done),
     }
 }
@@ -141,7 +132,7 @@ fn end_open(work: &mut [u32], list: List, done: usize) -> usize
 }
 
 // The end of a split list: its node takes the statements, and is the list's one item. `driver::finish` calls it where every item is done.
-pub fn finish(work: &mut [u32], list: List, done: u32) -> Finished
+pub fn finish(work: &mut [u32], list: List, done: u32) -> Result<Finished, Failure>
     requires { CanFinish work.old (walk_of list (Pass.Split done)) }
     ensures { Ends work.old (walk_of list (Pass.Split done)) result work.new }
 {
@@ -151,5 +142,8 @@ pub fn finish(work: &mut [u32], list: List, done: u32) -> Finished
     let node = slots::second_spare(first);
     children::give_children(work, node, base, statements);
     work[base] = node;
-    Finished::At(base, 1)
+    Ok(Finished {
+        from: base,
+        items: 1,
+    })
 }

@@ -44,12 +44,11 @@ fn to_add(work: &mut [u32], s: u32)
     requires { slot_end s ≤ length work.old }
     ensures { Added work.old s work.new }
 {
-    if slots::is_leaf(work, s) {
-        slots::set_operator(work, s, op::ADD);
-        slots::set_classes(work, s, TokenClasses::LEAF_ADD);
-        return;
-    }
+    let leaf = slots::is_leaf(work, s);
     slots::set_operator(work, s, op::ADD);
+    if leaf {
+        slots::set_classes(work, s, TokenClasses::LEAF_ADD);
+    }
 }
 
 // A binary minus: `+`, and the operand under a new minus.
@@ -66,13 +65,13 @@ fn subtract(work: &mut [u32], list: List, item: u32) -> List
 
 // A minus with an operand after it: unary after an operator or at the start, binary after an operand. Of two minuses the
 // right one is dropped, and the left one, which is still unread, becomes `+`.
-fn minus(work: &mut [u32], list: List, item: u32) -> Turn
+fn minus(work: &mut [u32], list: List, item: u32) -> Result<Turn, Failure>
     requires { CanTakeMinus work.old list item }
     ensures { TokenTaken work.old list item result work.new }
 {
     if list.read == 0 {
         prefix(work, list, item);
-        return turns::on(list, Pass::Unary);
+        return Ok(turns::on(list, Pass::Unary));
     }
     let last = list.read - 1;
     let at = list.base + last;
@@ -81,49 +80,47 @@ fn minus(work: &mut [u32], list: List, item: u32) -> Turn
     match before {
         BeforeMinus::Operator => {
             prefix(work, list, item);
-            turns::on(list, Pass::Unary)
+            Ok(turns::on(list, Pass::Unary))
         }
         BeforeMinus::Operand => {
             let after = subtract(work, list, item);
-            turns::on(after, Pass::Unary)
+            Ok(turns::on(after, Pass::Unary))
         }
         BeforeMinus::Minus => {
             to_add(work, previous);
-            turns::on(list, Pass::Unary)
+            Ok(turns::on(list, Pass::Unary))
         }
-        BeforeMinus::Unknown => Turn::Fail(Failure::UnknownOperation(item, previous)),
+        BeforeMinus::Unknown => Err(Failure::UnknownOperation(item, previous)),
     }
 }
 
 // A minus or a not.
-fn token(work: &mut [u32], list: List, item: u32) -> Turn
+fn token(work: &mut [u32], list: List, item: u32) -> Result<Turn, Failure>
     requires { CanTakeToken work.old list item }
     ensures { TokenTaken work.old list item result work.new }
 {
     if slots::operator_of(work, item) == op::NEGATE {
         if list.write == list.len {
-            return Turn::Fail(Failure::NegateWithoutOperand(item));
+            return Err(Failure::NegateWithoutOperand(item));
         }
         return minus(work, list, item);
     }
     if list.write == list.len {
-        return Turn::Fail(Failure::NotWithoutOperand(item));
+        return Err(Failure::NotWithoutOperand(item));
     }
     prefix(work, list, item);
-    turns::on(list, Pass::Unary)
+    Ok(turns::on(list, Pass::Unary))
 }
 
-// `next_token` from the right: items move to the done ones as they are, up to the next minus, not, or node with one below.
+// `next_token` from the right: items move to the done ones as they are, up to the next minus, not, or node with one below. One function for
+// both ways would ask at each item which way it goes.
 fn previous_token(work: &mut [u32], list: List) -> Found
     requires { CanSeekBack work.old list }
     ensures { SoughtBack work.old list result work.new }
 {
-    let base = list.base;
-    let mut read = list.read;
     let mut write = list.write;
-    while 0 < read {
-        read -= 1;
-        let item = work[base + read];
+    for read in (0..list.read).rev() {
+        let item = work[list.base + read];
         if slots::classes_of(work, item).intersects(TokenClasses::UNARY) {
             let rest = items::moved(list, read, write);
             if slots::is_leaf(work, item) {
@@ -132,20 +129,20 @@ fn previous_token(work: &mut [u32], list: List) -> Found
             return Found::Children(rest, item);
         }
         write -= 1;
-        work[base + write] = item;
+        work[list.base + write] = item;
     }
-    Found::Nothing(items::moved(list, read, write))
+    Found::Nothing(items::moved(list, 0, write))
 }
 
 // The unary pass up to its next token or node, from the right. `driver::step` calls it with a list at a turn.
-pub fn step(work: &mut [u32], list: List) -> Turn
+pub fn step(work: &mut [u32], list: List) -> Result<Turn, Failure>
     requires { CanTurn work.old (walk_of list Pass.Unary) }
     ensures { Turned work.old (walk_of list Pass.Unary) result work.new }
 {
     let found = previous_token(work, list);
     match found {
-        Found::Nothing(rest) => turns::over(rest, Pass::Unary),
-        Found::Children(rest, item) => turns::enter(rest, Pass::Unary, item),
+        Found::Nothing(rest) => Ok(turns::over(rest, Pass::Unary)),
+        Found::Children(rest, item) => Ok(turns::enter(rest, Pass::Unary, item)),
         Found::Token(rest, item) => token(work, rest, item),
     }
 }

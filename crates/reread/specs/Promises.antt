@@ -3,7 +3,7 @@ use Rattle.std.specs.Prelude.{ℕ, ◌≡◌, List}
 use Rattle.molang.specs.Parse.{Call, Told, answered, tree_after}
 use Rattle.molang.specs.Reread.{Rereading, RereadLeft, reread, Demand3}
 
--- `after_first` and `write_and_read` are given what some first call told, and its tree buffer as that call left it.
+-- `write_and_read` is given what some first call told, and its tree buffer as that call left it.
 pub record CanGoOn (told : Told) (tree : List ℕ) : Type 0 where
   pub first : Call
   pub says : answered first ≡ told

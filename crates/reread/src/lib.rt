@@ -12,10 +12,11 @@ ghost use Rattle.reread.specs.Promises.{CanGoOn, HasReread};
 use own::read_exactly;
 use parse::{Answer, parse};
 use words::fields;
-use write::{Written, write};
+use words::refusals::Refusal;
+use write::write;
 
-// What the three calls come to.
-#[derive(Clone, Copy)]
+// What the three calls come to, where none is turned back.
+#[derive(Clone, Copy, Debug, PartialEq, Eq)]
 pub enum Outcome {
     // Both readings gave a tree: the nodes of the first, the tokens written, the nodes of the second.
     Trees(usize, usize, usize),
@@ -23,30 +24,32 @@ pub enum Outcome {
     Messages(usize),
     // The second did: never given (`no_messages` of molang's `Demand3`).
     MessagesAgain(usize),
-    // The call that was turned back, 1, 2 or 3, with the refusal's number and place.
-    Refused(u32, u32, usize),
 }
 
-// The calls by number.
-pub const FIRST: u32 = 1;
-
-pub const WRITE: u32 = 2;
-
-pub const SECOND: u32 = 3;
+// The call that was turned back, and its refusal.
+#[derive(Clone, Copy, Debug, PartialEq, Eq)]
+pub enum TurnedBack {
+    First(Refusal),
+    Write(Refusal),
+    Second(Refusal),
+}
 
 // What the second reading's answer comes to, after a tree of so many nodes and a list of so many tokens.
-fn after_second(nodes: usize, count: usize, second: Answer) -> Outcome
+fn after_second(
+    nodes: usize,
+    count: usize,
+    second: Result<Answer, Refusal>,
+) -> Result<Outcome, TurnedBack>
     ensures { reread_of result ≡ second_told nodes count (told_of second) }
 {
     match second {
-        Answer::Tree(again) => Outcome::Trees(nodes, count, again),
-        Answer::Messages(records) => Outcome::MessagesAgain(records),
-        Answer::Refused(number, place) => Outcome::Refused(SECOND, number, place),
+        Ok(Answer::Tree(again)) => Ok(Outcome::Trees(nodes, count, again)),
+        Ok(Answer::Messages(records)) => Ok(Outcome::MessagesAgain(records)),
+        Err(refusal) => Err(TurnedBack::Second(refusal)),
     }
 }
 
-// Writes the tree of so many nodes that a reading left in front of its buffer, and reads what was written. `parse` promises what it and
-// `after_first` ask.
+// Writes the tree of so many nodes that a reading left in front of its buffer, and reads what was written. `parse` promises what it asks.
 fn write_and_read(
     tree: &[u32],
     written: &mut [u32],
@@ -57,7 +60,7 @@ fn write_and_read(
     source_length: u64,
     version: i16,
     limit: u32,
-) -> Outcome
+) -> Result<Outcome, TurnedBack>
     requires { CanGoOn (a_tree nodes) tree.now }
     ensures { left_of result tree.now written.new again.new messages.new work.new
         ≡ after_first
@@ -66,59 +69,18 @@ fn write_and_read(
         (a_tree nodes) }
 {
     let words = fields::NODE_WORDS * nodes;
-    let wrote = write(&tree[..words], written);
-    match wrote {
-        Written::Refused(number, place) => Outcome::Refused(WRITE, number, place),
-        Written::Tokens(count) => {
-            let end = fields::TOKEN_WORDS * count;
-            let second = read_exactly(
-                &written[..end],
-                again,
-                messages,
-                work,
-                source_length,
-                version,
-                limit,
-            );
-            after_second(nodes, count, second)
-        }
-    }
-}
-
-// What the first reading's answer comes to: a tree is written, and what was written is read.
-fn after_first(
-    first: Answer,
-    tree: &[u32],
-    written: &mut [u32],
-    again: &mut [u32],
-    messages: &mut [u32],
-    work: &mut [u32],
-    source_length: u64,
-    version: i16,
-    limit: u32,
-) -> Outcome
-    requires { CanGoOn (told_of first) tree.now }
-    ensures { left_of result tree.now written.new again.new messages.new work.new
-        ≡ after_first
-        (handed_of tree.now written.old again.old messages.old work.old
-        source_length version limit)
-        (told_of first) }
-{
-    match first {
-        Answer::Refused(number, place) => Outcome::Refused(FIRST, number, place),
-        Answer::Messages(records) => Outcome::Messages(records),
-        Answer::Tree(nodes) => write_and_read(
-            tree,
-            written,
-            again,
-            messages,
-            work,
-            nodes,
-            source_length,
-            version,
-            limit,
-        ),
-    }
+    let count = write(&tree[..words], written).map_err(TurnedBack::Write)?;
+    let end = fields::TOKEN_WORDS * count;
+    let second = read_exactly(
+        &written[..end],
+        again,
+        messages,
+        work,
+        source_length,
+        version,
+        limit,
+    );
+    after_second(nodes, count, second)
 }
 
 // The three calls over lent buffers. The messages and the work buffer serve both readings; each reading has its nesting limit.
@@ -137,7 +99,7 @@ pub fn reread(
     source_length_again: u64,
     version_again: i16,
     limit_again: u32,
-) -> Outcome
+) -> Result<Outcome, TurnedBack>
     ensures { HasReread
         (rereading
         (call list.now tree.old messages.old work.old
@@ -156,15 +118,18 @@ pub fn reread(
         used_high,
         limit,
     );
-    after_first(
-        first,
-        tree,
-        written,
-        again,
-        messages,
-        work,
-        source_length_again,
-        version_again,
-        limit_again,
-    )
+    match first.map_err(TurnedBack::First)? {
+        Answer::Messages(records) => Ok(Outcome::Messages(records)),
+        Answer::Tree(nodes) => write_and_read(
+            tree,
+            written,
+            again,
+            messages,
+            work,
+            nodes,
+            source_length_again,
+            version_again,
+            limit_again,
+        ),
+    }
 }

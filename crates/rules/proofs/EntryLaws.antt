@@ -1,13 +1,11 @@
 -- The entry with a rule buffer: its table is answers 1 to 5 and 16 before the other rows, a call that these let through is answered as
 -- without the buffer, and the bytes are the definition's rules. Assumes nothing.
 use Prim.Native.Nat.{ℕ, ◌*◌, ◌/◌, ◌≤◌, ◌<◌}
-use mathlib.Core.{Path.{◌≡◌, refl, ap, sym, ◌∙◌, subst}, Bool.{Bool, true, false}, List.{List, [], ◌∷◌}, Logic.{inl, inr}}
+use mathlib.Core.{Path.{◌≡◌, refl, ap, sym, ◌∙◌, subst}, Bool.{Bool, true, false}, List.{List, [], ◌∷◌}}
 use mathlib.Core.Option.{Option, none, some}
 use native.Mathlib.Omega.{arith}
 use lib.{Dec.{leb}, IntN.{ℤ}, ListN.{length, take}}
 use borrow.Author.Tests.{leb-true, le-leb, lt-leb}
-use types.Run.{OneOf}
-use denote.Enum.Declared.{tag_of}
 use Rattle.molang.{specs.FirstFailure.{must, first_of}, specs.Forest.{Token, Forest, nil, node, size}}
 use Rattle.molang.{specs.Order.{effective, is_from, rules}, specs.Words.{Refusal, row, tokens_of}}
 use Rattle.molang.specs.Parse.{Call, Told, a_tree, some_messages, refused, length_rows, value_rows, refusal, reading, told, answered, in_halves}
@@ -19,8 +17,10 @@ use Rattle.molang.{proofs.OperatorRules.{rules-by-operator}, proofs.HandedTree.{
 use Rattle.molang.specs.Read as read
 use Rattle.accept.specs.{declared.Sizes.{Sizes}, Accepting.{is_read, is_refused, verdict, length_refusal}}
 use Rattle.accept.proofs.AcceptLaws.{sizes_of, same-lengths, accepted, refused_as}
-use Rattle.parse.specs.{declared.Answer.{Answer}, declared.Answer.TheVariants.{Tree, Messages, Refused}, Answers.{told_of, HasParsed}}
-use Rattle.parse.specs.contracts.Answer.{the_type}
+use Rattle.parse.specs.{declared.Answer.{Answer}, declared.Answer.TheVariants.{Tree, Messages}, Answers.{told_of, HasParsed}}
+use Rattle.std.specs.Prelude.{Result, Ok, Err}
+use Rattle.words.specs.Refusals.{reason_number}
+use Rattle.words.specs.declared.refusals.Refusal as code
 use Rattle.rules.specs.{Nodes.{word_rules}, Numbering.{room_refusal, CanNumber, numbered}, Answers.{HasRuled}}
 use Rattle.rules.proofs.NodeLaws.{tree-ruled}
 
@@ -84,11 +84,7 @@ lets-through c n m e =
 
 -- ---- the bytes
 
--- What `number` is given of a tree and leaves of it, and what it leaves where there is none.
-pub tree-numbers : (r : Answer) (nodes : ℕ) (tree bytes : List ℕ) → r ≡ Tree nodes → CanNumber r tree bytes
-    → CanNumber (Tree nodes) tree bytes
-tree-numbers r nodes tree bytes e h = subst (λ (x : Answer). CanNumber x tree bytes) e h
-
+-- What `number` leaves of a tree.
 pub tree-numbered : (r : Answer) (nodes : ℕ) (raw version : ℤ) (first : Bool) (tree bytes bytes' : List ℕ) → r ≡ Tree nodes
     → version ≡ effective raw
     → first ≡ is_from 6 version
@@ -99,13 +95,6 @@ tree-numbered r nodes raw version first tree bytes bytes' e v f h =
     let same : first ≡ is_from 6 (effective raw) = f ∙ ap (is_from 6) v in
     h ∙ (ap (λ (b : Bool). in_front (word_rules b (take (7 * nodes) tree)) bytes) same
     ∙ ap (λ (x : Answer). numbered x raw tree bytes) (sym e))
-
-pub unnumbered : (r : Answer) (version : ℤ) (tree bytes : List ℕ) → OneOf (1 ∷ 2 ∷ []) (tag_of the_type r)
-    → bytes ≡ numbered r version tree bytes
-unnumbered (Tree nodes) version tree bytes (inl e) = absurd (omega arith)
-unnumbered (Tree nodes) version tree bytes (inr e) = absurd (omega arith)
-unnumbered (Messages records) version tree bytes h = refl
-unnumbered (Refused number place) version tree bytes h = refl
 
 -- What is told is no tree.
 abbrev NoTree : Told → Type 0
@@ -136,7 +125,7 @@ module _ (c : Call) {k : Token} {cs : Forest} (p : Parsed c k cs) where
   parsed-few = unfold reading in omega (arith, read-tree _ _ _ _ k cs p.reads, tokens-count c.list)
 
 -- There is room for the tree's words and a byte for each of its nodes.
-pub can-number : (c : RuleCall) (r : Answer) (tree' messages' work' : List ℕ) → LetThrough c → HasParsed c.call r tree' messages' work'
+pub can-number : (c : RuleCall) (r : Answer) (tree' messages' work' : List ℕ) → LetThrough c → HasParsed c.call (Ok r) tree' messages' work'
     → length tree' ≡ length c.call.tree
     → CanNumber r tree' c.rules
 can-number c (Tree nodes) tree' messages' work' l h long =
@@ -145,10 +134,9 @@ can-number c (Tree nodes) tree' messages' work' l h long =
     let a = call-accepted c.call t.parsed.accepted in
     (omega (arith, t.nodes, a.tree), omega (arith, t.nodes, l.bytes))
 can-number c (Messages records) tree' messages' work' l h long = tt
-can-number c (Refused number place) tree' messages' work' l h long = tt
 
 -- What is numbered by the words in the tree buffer is the definition's.
-numbers-meet : (c : RuleCall) (r : Answer) → told_of r ≡ answered c.call
+numbers-meet : (c : RuleCall) (r : Answer) → told_of (Ok r) ≡ answered c.call
     → numbered r c.call.version (tree_after c.call) c.rules
     ≡ rules_for (refusal c.call) (reading c.call)
     (rules_of (tokens_of c.call.list) (in_halves c.call.used_low c.call.used_high) c.call.version) c.rules
@@ -158,25 +146,30 @@ numbers-meet c (Tree nodes) e =
     rw (t.parsed.accepted, t.parsed.reads, t.nodes)
     (ap (λ (ns : List ℕ). in_front ns c.rules) (parsed-rules c.call t.parsed))
 numbers-meet c (Messages records) e = kept (refusal c.call) (reading c.call) _ c.rules (subst (λ (t : Told). NoTree t) e tt)
-numbers-meet c (Refused number place) e = kept (refusal c.call) (reading c.call) _ c.rules (subst (λ (t : Told). NoTree t) e tt)
 
 -- ---- the entry
 
-pub refused-meets : (c : RuleCall) (number place : ℕ) → rule_refusal c ≡ some (row number place)
-    → HasRuled c (Refused number place) c.call.tree c.call.messages c.call.work c.rules
+-- Rows that turn it back, told as a refusal with their number and place.
+pub refused-meets : (c : RuleCall) (e : code.Refusal) → rule_refusal c ≡ some (row (reason_number e.reason) e.place)
+    → HasRuled c (Err e) c.call.tree c.call.messages c.call.work c.rules
 unfolding rule_answered told ruled_tree_after tree_in ruled_messages_after messages_in ruled_work_after work_in rules_after rules_for
-refused-meets c number place r = record { told = rw r; tree = rw r; messages = rw r; work = rw r; rules = rw r }
+refused-meets c e r = record { told = rw r; tree = rw r; messages = rw r; work = rw r; rules = rw r }
 
-pub read_meets : (c : RuleCall) (r : Answer) (tree' messages' work' rules' : List ℕ) → LetThrough c
-    → HasParsed c.call r tree' messages' work'
-    → rules' ≡ numbered r c.call.version tree' c.rules
-    → HasRuled c r tree' messages' work' rules'
-unfolding answered tree_after messages_after work_after rule_answered ruled_tree_after ruled_messages_after ruled_work_after rules_after
-read_meets c r tree' messages' work' rules' l h e =
-    record {
-      told = rw l.same h.told;
-      tree = rw l.same h.tree;
-      messages = rw l.same h.messages;
-      work = rw l.same h.work;
-      rules = rw l.same (e ∙ (ap (λ (t : List ℕ). numbered r c.call.version t c.rules) h.tree ∙ numbers-meet c r h.told));
-    }
+module _ (c : RuleCall) (tree' messages' work' : List ℕ) (l : LetThrough c) where
+  meets : (r : Result Answer code.Refusal) (rules' : List ℕ) → HasParsed c.call r tree' messages' work'
+      → rules' ≡ rules_for (refusal c.call) (reading c.call)
+      (rules_of (tokens_of c.call.list) (in_halves c.call.used_low c.call.used_high) c.call.version) c.rules
+      → HasRuled c r tree' messages' work' rules'
+  unfolding answered tree_after messages_after work_after rule_answered ruled_tree_after ruled_messages_after ruled_work_after rules_after
+  meets r rules' h e =
+      record { told = rw l.same h.told; tree = rw l.same h.tree; messages = rw l.same h.messages; work = rw l.same h.work; rules = rw l.same e }
+
+  -- `parse` turns it back, and the bytes are as they were; or they are numbered.
+  pub turned_meets : (e : code.Refusal) → HasParsed c.call (Err e) tree' messages' work' → HasRuled c (Err e) tree' messages' work' c.rules
+  unfolding answered
+  turned_meets e h = meets (Err e) c.rules h (kept (refusal c.call) (reading c.call) _ c.rules (subst (λ (t : Told). NoTree t) h.told tt))
+
+  pub read_meets : (r : Answer) (rules' : List ℕ) → HasParsed c.call (Ok r) tree' messages' work' → rules' ≡ numbered r c.call.version tree' c.rules
+      → HasRuled c (Ok r) tree' messages' work' rules'
+  read_meets r rules' h e =
+      meets (Ok r) rules' h (e ∙ (ap (λ (t : List ℕ). numbered r c.call.version t c.rules) h.tree ∙ numbers-meet c r h.told))

@@ -8,7 +8,7 @@ use Rattle.molang.specs.Parse.{in_front}
 use Rattle.accept.specs.declared.Sizes.{Sizes}
 use Rattle.accept.specs.Accepting.{length_refusal}
 use Rattle.parse.specs.declared.Answer.{Answer}
-use Rattle.parse.specs.declared.Answer.TheVariants.{Tree, Messages, Refused}
+use Rattle.parse.specs.declared.Answer.TheVariants.{Tree, Messages}
 use Rattle.rules.specs.Nodes.{word_rules}
 
 -- Answers 1 to 5, and 16 to a rule buffer of so many bytes.
@@ -19,10 +19,8 @@ room_refusal list sizes bytes = first_of (length_refusal list sizes ∷ must (le
 abbrev pub CanNumber : Answer → List ℕ → List ℕ → Type 0
 CanNumber (Tree nodes) tree bytes = (7 * nodes ≤ length tree) × (nodes ≤ length bytes)
 CanNumber (Messages records) tree bytes = Unit {0}
-CanNumber (Refused number place) tree bytes = Unit {0}
 
 -- The rule buffer with the numbers of the tree's nodes in front, by their words; where no tree came, as it was.
 abbrev pub numbered : Answer → ℤ → List ℕ → List ℕ → List ℕ
 numbered (Tree nodes) version tree bytes = in_front (word_rules (rules version).comparisons_first (take (7 * nodes) tree)) bytes
 numbered (Messages records) version tree bytes = bytes
-numbered (Refused number place) version tree bytes = bytes

@@ -12,26 +12,24 @@ ghost use Rattle.rules.specs.Nodes.{word_rules};
 ghost use Rattle.rules.specs.Numbering.{room_refusal, CanNumber, numbered};
 ghost use Rattle.rules.specs.Answers.{call, HasRuled};
 
-use accept::{Accepted, Sizes, lengths};
+use accept::{Sizes, lengths};
 use ops::version::{effective, is_from_6};
 use parse::{Answer, parse};
-use words::{fields, refusals};
+use words::fields;
+use words::refusals::{Reason, Refusal};
 
 // Bytes of the rule buffer per token: a tree has no more nodes.
 pub const RULE_BYTES: usize = 3;
 
 // Answers 1 to 5, and 16 after them.
-fn room(list: &[u32], sizes: Sizes, bytes: usize) -> Accepted
+fn room(list: &[u32], sizes: Sizes, bytes: usize) -> Result<usize, Refusal>
     ensures { verdict_of result ≡ verdict (length list.now / 5) (room_refusal list.now sizes bytes) }
 {
-    let length = lengths(list, sizes);
-    let Accepted::Tokens(n) = length else {
-        return length;
-    };
+    let n = lengths(list, sizes)?;
     if bytes < RULE_BYTES * n {
-        return Accepted::Refused(refusals::SHORT_RULE_BUFFER, 0);
+        return Err(Reason::ShortRuleBuffer.at(0));
     }
-    Accepted::Tokens(n)
+    Ok(n)
 }
 
 // Fills the front of the rule buffer with the rules of nodes that stand in a row. `number` has room for them.
@@ -41,11 +39,9 @@ fn fill(nodes: &[u32], rules: &mut [u8], comparisons_first: bool)
 {
     let table = rule::table(comparisons_first);
     let count = nodes.len() / fields::NODE_WORDS;
-    let mut i = 0usize;
-    while i < count {
+    for i in 0..count {
         let at = fields::NODE_WORDS * i;
-        rules[i] = rule::of_node(&table, nodes[at], nodes[at + fields::COUNT_FIELD]);
-        i += 1;
+        rules[i] = u8::from(rule::of_node(&table, nodes[at], nodes[at + fields::COUNT_FIELD]));
     }
 }
 
@@ -72,7 +68,7 @@ pub fn parse_ruled(
     used_low: u64,
     used_high: u64,
     limit: u32,
-) -> Answer
+) -> Result<Answer, Refusal>
     ensures { HasRuled
         (call list.now tree.old messages.old work.old rules.old
         source_length version used_low used_high limit)
@@ -84,10 +80,7 @@ pub fn parse_ruled(
         work: work.len(),
         source: source_length,
     };
-    let checked = room(list, sizes, rules.len());
-    if let Accepted::Refused(number, place) = checked {
-        return Answer::Refused(number, place);
-    }
+    room(list, sizes, rules.len())?;
     let answer = parse(
         list,
         tree,
@@ -98,7 +91,7 @@ pub fn parse_ruled(
         used_low,
         used_high,
         limit,
-    );
+    )?;
     number(answer, tree, rules, version);
-    answer
+    Ok(answer)
 }

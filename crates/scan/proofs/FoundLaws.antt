@@ -6,7 +6,8 @@ use lib.{IntN.{ℤ}, ListN.{length, drop}}
 use Rattle.molang.specs.{Operator.{any, is_operator}, Forest.{Token}, Order.{rules}, Words.{tokens_of, list_words}, Parse.{in_halves}}
 use Rattle.molang.proofs.{Words.{LegalTokens, no_tokens, token, words_back}, ListWords.{list_words-length}}
 use Rattle.ops.specs.declared.sets.OpSet.{OpSet}
-use Rattle.scan.specs.{declared.scan.Scanned.{Scanned}, declared.scan.Scanned.TheVariants.{Records}, Entries.{nth, entries_of}}
+use Rattle.std.specs.Prelude.{Option, Some}
+use Rattle.scan.specs.Entries.{nth, entries_of}
 use Rattle.scan.specs.{Tables.{table_of}, Views.{View}}
 use Rattle.scan.specs.{Turns.{Walking, Turning, want, done, gives_up, turned_once, want_turn, Walks, stays, goes, start}, States.{given}}
 use Rattle.scan.specs.{Scanning.{Scans, found, HasScanned}, Walk.{CanWalk}}
@@ -58,7 +59,7 @@ module _ {list W tree : List ℕ} {n : ℕ} (can : CanWalk list W tree n) where
     many : length list ≡ 5 * length (tokens_of list)
     many = ap (λ (l : List ℕ). length l) (sym back.0) ∙ list_words-length (tokens_of list)
 
-    pub found-text : {W' : List ℕ} {from : ℕ} → Scans list used version W' (Records from)
+    pub found-text : {W' : List ℕ} {from : ℕ} → Scans list used version W' (Some from)
         → Found list (in_halves used.low used.high) version (drop from W')
     unfolding any
     found-text {W'} {from} (found e s) =
@@ -87,12 +88,12 @@ module _ {list W tree : List ℕ} {n : ℕ} (can : CanWalk list W tree n) where
               (some-token g (length list) e.walks) e.view (omega (arith, t)) e.walks);
         }
 
-    ended : {W' : List ℕ} {from : ℕ} → Scans list used version W' (Records from) → from ≤ length W'
+    ended : {W' : List ℕ} {from : ℕ} → Scans list used version W' (Some from) → from ≤ length W'
     ended (found e s) = e.within
 
     -- What `walk` needs to emit the records.
-    pub scanned : (z : ℤ) → z ≡ version → {W' : List ℕ} {r : Scanned} {from : ℕ} → HasScanned list used z W W' r → r ≡ Records from
+    pub scanned : (z : ℤ) → z ≡ version → {W' : List ℕ} {r : Option ℕ} {from : ℕ} → HasScanned list used z W W' r → r ≡ Some from
         → Found list (in_halves used.low used.high) version (drop from W') × (from ≤ length W') × (length W' ≡ length W)
     scanned z v {W'} {r} h e =
-        let s = subst (λ (x : Scanned). Scans list used version W' x) e (subst (λ (y : ℤ). Scans list used y W' r) v h.scans) in
+        let s = subst (λ (x : Option ℕ). Scans list used version W' x) e (subst (λ (y : ℤ). Scans list used y W' r) v h.scans) in
         (found-text s, ended s, h.long)

@@ -1,8 +1,8 @@
 -- The operator at a place of the list, in its words and among its tokens.
-use Prim.Native.Nat.{ℕ, zero, suc, ◌+◌, ◌*◌, ◌-◌, ◌/◌, ◌%◌, ◌≤◌, ◌<◌}
-use mathlib.Core.{Path.{◌≡◌, refl, ap, sym, ◌∙◌}, Bool.{Bool, true, ◌&&◌}, List.{List, [], ◌∷◌}}
+use Prim.Native.Nat.{ℕ, zero, suc, ◌+◌, ◌*◌, ◌-◌, ◌/◌, ◌%◌, ◌≤◌, ◌<◌, min}
+use mathlib.Core.{Path.{◌≡◌, refl, ap, sym, ◌∙◌}, Bool.{Bool, true, false, ◌&&◌}, List.{List, [], ◌∷◌}}
 use lib.{Dec.{eqb, ltb}, ListN.{length, get_or}}
-use borrow.Author.Tests.{lt-ltb, le-ltb, eq-eqb, ne_eqb}
+use borrow.Author.Tests.{lt-ltb, ltb-true, ltb-false, eq-eqb, ne_eqb}
 use Rattle.ops.specs.declared.sets.OpSet.{OpSet}
 use native.Mathlib.Omega.{arith}
 use Rattle.molang.specs.Words.{tokens_of, token_of, number_in}
@@ -24,11 +24,10 @@ nth-op (a ∷ b ∷ c ∷ d ∷ e ∷ ws) (suc i) l =
     let next : 5 * suc i ≡ suc (suc (suc (suc (suc (5 * i))))) = omega arith in
     nth-op ws i (omega (arith, l)) ∙ ap (λ (n : ℕ). operator_of (get_or (a ∷ b ∷ c ∷ d ∷ e ∷ ws) n 0)) (sym next)
 
-pub looked : (list : List ℕ) (at r : ℕ) → UpTo list at → at < length list → r ≡ operator_of (get_or list at 0) → LookedUp list at r
+pub looked : (list : List ℕ) (at r : ℕ) → length list % 5 ≡ 0 → UpTo list at → at < length list → r ≡ operator_of (get_or list at 0) → LookedUp list at r
 unfolding token_at operator_of number_in
-looked list at r u l e =
+looked list at r w u l e =
     let p = u.place in
-    let w = u.whole in
     let back : at ≡ 5 * (at / 5) = omega (arith, p) in
     let m : 5 * (at / 5) + 5 ≤ length list = omega (arith, p, w, l) in
     record { found = e ∙ ap (λ (n : ℕ). operator_of (get_or list n 0)) back ∙ sym (nth-op list (at / 5) m); small = omega (arith, e) }
@@ -44,13 +43,13 @@ before-first list at e = rw (eq-eqb at 0 e, operator_before) refl
 pub before-other : (list : List ℕ) (at : ℕ) → (at ≡ 0 → ⊥) → operator_of_place list (at - 5) ≡ operator_before list at
 before-other list at n = rw (ne_eqb at 0 n, operator_before) refl
 
-pub entry-low : (table : List ℕ) (op : ℕ) → op < 111 → get_or table op 0 ≡ entry_in table op
+pub entry-at : (table : List ℕ) (op : ℕ) → get_or table (min op 111) 0 ≡ entry_in table op
 unfolding entry_in
-entry-low table op l = rw (lt-ltb op 111 l, entry_in) refl
-
-pub entry-last : (table : List ℕ) (op : ℕ) → 111 ≤ op → get_or table 111 0 ≡ entry_in table op
-unfolding entry_in
-entry-last table op l = rw (le-ltb op 111 l, entry_in) refl
+entry-at table op = by (ltb op 111) refl
+  where
+    by : (b : Bool) → ltb op 111 ≡ b → get_or table (min op 111) 0 ≡ entry_in table op
+    by true e = let l = ltb-true op 111 e in let m : min op 111 ≡ op = omega (arith, l) in rw (e, m, entry_in) refl
+    by false e = let l = ltb-false op 111 e in let m : min op 111 ≡ 111 = omega (arith, l) in rw (e, m, entry_in) refl
 
 module _ (list table : List ℕ) (used : OpSet) (at : ℕ) where
   -- The name before a place: its entry is such a one, and it is used.

@@ -4,6 +4,7 @@ use native.Mathlib.Omega.{arith}
 use mathlib.Core.{Path.{◌≡◌, refl, sym, ◌∙◌}, Bool.{Bool, true, false, ◌&&◌}, List.{List}}
 use lib.{Dec.{eqb, ltb}, ListN.{length-drop}}
 use borrow.Author.Tests.{eq-eqb, ne_eqb, eqb-true, ltb-true}
+use Rattle.std.specs.Prelude.{Option}
 use Rattle.scan.specs.{declared.stack.State.{State}, declared.steps.Turn.{Turn}}
 use Rattle.scan.specs.Views.{View, top_word, read_from, popped, laid, settled}
 use Rattle.scan.specs.Turns.{Walking, have, section_laid, call_laid, is_plain, is_callable, is_empty_call, opened_turn, opener_turn, empty_turn}
@@ -54,7 +55,7 @@ module _ {W : List ℕ} {s s₁ : State} (g : Sound W s) (two : HasTwo s) (a : B
 
 -- ---- by what stands before the section
 
-module _ (g : Walking) (op at : ℕ) (v : View) {W W' : List ℕ} {t : Turn} where
+module _ (g : Walking) (op at : ℕ) (v : View) {W W' : List ℕ} {t : Option Turn} where
   pub opened-plain : {b : Bool} → b ≡ is_plain g op at → b ≡ true → Turns W W' t (have (section_laid 1073741824 at v))
       → Turns W W' t (opened_turn g op at v)
   unfolding opened_turn

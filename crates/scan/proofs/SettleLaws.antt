@@ -5,7 +5,7 @@ use native.Mathlib.Omega.{arith}
 use lib.{ListN.{length, drop, length-drop}, Dec.{leb}}
 use borrow.Author.Tests.{le-leb, lt-leb}
 use Rattle.scan.specs.declared.stack.State.{State}
-use Rattle.scan.specs.Views.{View, top_word, tail_of, popped, laid, Lists, settled_lists, settled, Based, bottom, above}
+use Rattle.scan.specs.Views.{View, top_word, tail_of, popped, laid, taken, Lists, settled_lists, settled, Based, bottom, above}
 use Rattle.scan.specs.States.{stack_of, view_of, Sound, HasRoom, HasTwo, free_of, Becomes, Grounded, here, there}
 
 -- ---- lists
@@ -88,62 +88,43 @@ module _ {from : ℕ} {W₀ : List ℕ} {s₀ : State} {W : List ℕ} {s : State
         long = i.long;
       }
 
-  module _ (t : from ≤ s.top) {W₁ : List ℕ} {s₁ : State} (a : Becomes W W₁ s₁ (laid (s.top % 67108864) (view_of W s))) where
+  module _ (t : from ≤ s.top) where
     reaches : from ≤ top_word (stack_of W s.depth)
     reaches = omega (arith, t, i.sound.top)
 
-    pub two : HasTwo s₁
-    unfolding laid view_of
-    two =
-        let d = depth-of a ∙ stack-long W s.depth in
-        let l = two-wait from W s.depth i.ground reaches in
-        omega (arith, d, l)
+    pub two : HasTwo s
+    two = two-wait from W s.depth i.ground reaches
 
-    module _ {s₂ : State} (b : Becomes W₁ W₁ s₂ (popped (view_of W₁ s₁))) where
-      both : view_of W₁ s₂ ≡ popped (laid (s.top % 67108864) (view_of W s))
-      both = b.same ∙ ap popped a.same
+    module _ {W₁ : List ℕ} {s₁ : State} (a : Becomes W W₁ s₁ (taken (view_of W s))) where
+      stacks : stack_of W₁ s₁.depth ≡ tail_of (stack_of W s.depth)
+      unfolding view_of taken popped laid
+      stacks = ap (λ (u : View). u.stack) a.same
 
-      stacks : stack_of W₁ s₂.depth ≡ tail_of (stack_of W s.depth)
-      unfolding view_of popped laid
-      stacks = ap (λ (u : View). u.stack) both
-
-      depths : s₂.depth ≡ s.depth - 1
+      depths : s₁.depth ≡ s.depth - 1
       depths =
-          let n = sym (stack-long W₁ s₂.depth) ∙ ap (λ (S : List ℕ). length S) stacks ∙ tail-long (stack_of W s.depth) in
+          let n = sym (stack-long W₁ s₁.depth) ∙ ap (λ (S : List ℕ). length S) stacks ∙ tail-long (stack_of W s.depth) in
           let m = stack-long W s.depth in
           omega (arith, n, m)
 
-      outs : s₂.out + 1 ≡ s.out
-      unfolding view_of popped laid
-      outs =
-          let n = sym (length-drop s₂.out W₁) ∙ ap (λ (u : View). length u.records) both in
-          let m = length-drop s.out W in
-          let l = i.sound.within in
-          let k = b.sound.within in
-          let e = a.long in
-          omega (arith, n, m, l, k, e)
+      pub less : s₁.depth < s.depth
+      less = let l = two in omega (arith, l, depths)
 
-      pub less : s₂.depth < s.depth
-      less = let l = two-wait from W s.depth i.ground reaches in omega (arith, l, depths)
-
-      pub again : Settling from W₀ s₀ W₁ s₂
-      unfolding settled view_of popped laid
-      again =
-          let l = two-wait from W s.depth i.ground reaches in
+      pub again : free_of s₁ ≡ free_of s → Settling from W₀ s₀ W₁ s₁
+      unfolding settled view_of taken popped laid
+      again f =
           let r = i.room in
-          let f = i.free in
+          let g = i.free in
           record {
-            sound = b.sound;
+            sound = a.sound;
             long = a.long ∙ i.long;
             same =
-                ap (settled from) both
+                ap (settled from) a.same
                 ∙ ap (λ (l : Lists). record { left = s.left; stack = l.stack; records = l.records })
-                (ap (λ (w : ℕ). settled_lists from (tail_of (stack_of W s.depth)) (w % 67108864 ∷ drop s.out W)) i.sound.top
-                ∙ settle-lists from (stack_of W s.depth) (drop s.out W) i.ground reaches)
+                (settle-lists from (stack_of W s.depth) (drop s.out W) i.ground reaches)
                 ∙ i.same;
             ground = subst (Grounded from) (sym stacks) (deeper from (stack_of W s.depth) i.ground reaches);
-            free = omega (arith, f, l, depths, outs);
-            room = omega (arith, r, l, depths, outs);
+            free = f ∙ g;
+            room = omega (arith, r, f);
           }
 
 -- ---- the lowest word

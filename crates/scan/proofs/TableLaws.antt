@@ -5,7 +5,7 @@ use mathlib.Core.{Path.{◌≡◌, refl, ap, sym, ◌∙◌}, Bool.{Bool, true, 
 use lib.{Dec.{eqb, leb, ltb}, ListN.{length, get_or}, IntN.{ℤ, pos, negsuc}}
 use borrow.Author.Tests.{ltb-true, leb-true, le-leb, eq-eqb}
 use Rattle.molang.specs.Order.{Rules, rules, is_from, effective}
-use Rattle.scan.specs.{Tables.{below_five, at_five, from_six, table_of, entry_in}, Turns.{have_class}, States.{IsLow, HasOpeners}}
+use Rattle.scan.specs.{Tables.{below_five, at_five, from_six, table_of, entry_in, IsLow, HasOpeners}, Turns.{have_class}}
 use Rattle.scan.proofs.SectionLaws.{first-true, second-true}
 
 -- A test of every entry with its number.

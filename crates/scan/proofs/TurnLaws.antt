@@ -4,9 +4,10 @@ use native.Mathlib.Omega.{arith}
 use mathlib.Core.{Path.{◌≡◌, refl, ap, sym, subst, ◌∙◌}, Bool.{Bool, true, false, ◌&&◌}, List.{List}}
 use lib.{Dec.{eqb, leb}, ListN.{length, drop, length-drop}}
 use borrow.Author.Tests.{eqb-true}
+use Rattle.std.specs.Prelude.{Option, Some, None}
 use Rattle.scan.specs.{declared.stack.State.{State}, declared.steps.Turn.{Turn}}
-use Rattle.scan.specs.declared.steps.Turn.TheVariants.{Want, Done}
-use Rattle.scan.specs.Views.{View, top_word, read_from, pushed, popped, laid, taken, settled, Based}
+use Rattle.scan.specs.declared.steps.Turn.TheVariants.{Done}
+use Rattle.scan.specs.Views.{View, top_word, popped, laid, taken, settled, Based}
 use Rattle.scan.specs.Turns.{Turning, operator_turn, wait_turn, question_turn, end_turn}
 use Rattle.scan.specs.States.{stack_of, view_of, Sound, HasRoom, HasTwo, free_of, StandsFree, Becomes, Turns, wants, haves, ends, stops}
 use Rattle.scan.proofs.SettleLaws.{depth-of, out_of, stack-long, tail-long, based-settled, based-two}
@@ -16,13 +17,17 @@ pub then : (f : View → View) {W W₁ W₂ : List ℕ} {s t : State} {v : View}
     → Becomes W W₂ t (f v)
 then f a b = record { sound = b.sound; same = b.same ∙ ap f a.same; long = b.long ∙ a.long }
 
-turns-long : {W W₁ W₂ : List ℕ} {t : Turn} {a : Turning} → length W₁ ≡ length W → Turns W₁ W₂ t a → Turns W W₂ t a
+-- The walk gives up where it is.
+pub given_up : {W : List ℕ} {a : Turning} → Turns W W None a
+given_up = stops refl
+
+turns-long : {W W₁ W₂ : List ℕ} {t : Option Turn} {a : Turning} → length W₁ ≡ length W → Turns W₁ W₂ t a → Turns W W₂ t a
 turns-long e (wants b) = wants (record { sound = b.sound; same = b.same; long = b.long ∙ e })
 turns-long e (haves b) = haves (record { sound = b.sound; same = b.same; long = b.long ∙ e })
 turns-long e (ends i r l) = ends i r (l ∙ e)
 turns-long e (stops l) = stops (l ∙ e)
 
-pub then-turn : (f : View → Turning) {W W₁ W₂ : List ℕ} {s : State} {t : Turn} {v : View} → Becomes W W₁ s v
+pub then-turn : (f : View → Turning) {W W₁ W₂ : List ℕ} {s : State} {t : Option Turn} {v : View} → Becomes W W₁ s v
     → Turns W₁ W₂ t (f (view_of W₁ s)) → Turns W W₂ t (f v)
 then-turn f {W₁} {W₂} {t} a b = turns-long a.long (subst (λ (u : View). Turns W₁ W₂ t (f u)) a.same b)
 
@@ -58,10 +63,10 @@ module _ {W W₁ : List ℕ} {s : State} (v : View) (at word from : ℕ) (a : Be
   told : (eqb (top_word (settled from v).stack / 67108864 % 2) 1 && leb from 671088640) ≡ b
   told = ap (λ (w : ℕ). eqb (w / 67108864 % 2) 1 && leb from 671088640) (sym (top_of a)) ∙ sym e
 
-  pub operator-waits : b ≡ false → {W₂ : List ℕ} {t : State} → Becomes W₁ W₂ t (pushed (at + word) (read_from at (view_of W₁ s)))
-      → Turns W W₂ (Want t) (operator_turn at word from v)
-  unfolding operator_turn
-  operator-waits n p = rw (told ∙ n, operator_turn) (wants (then (λ (u : View). pushed (at + word) (read_from at u)) a p))
+  pub operator-waits : b ≡ false → {W₂ : List ℕ} {t : Option Turn} → Turns W₁ W₂ t (wait_turn at word (view_of W₁ s))
+      → Turns W W₂ t (operator_turn at word from v)
+  unfolding operator_turn wait_turn
+  operator-waits n w = rw (told ∙ n, operator_turn) (then-turn (wait_turn at word) a w)
 
 -- ---- a `?`
 
@@ -70,12 +75,12 @@ module _ {W W₁ : List ℕ} {s : State} (v : View) (at : ℕ) (a : Becomes W W�
   tells : eqb (top_word (settled 805306368 v).stack / 67108864 % 2) 1 ≡ b
   tells = ap (λ (w : ℕ). eqb (w / 67108864 % 2) 1) (sym (top_of a)) ∙ sym e
 
-  pub question-takes : b ≡ true → {W₂ W₃ : List ℕ} {s₂ : State} {t : Turn} → Becomes W₁ W₂ s₂ (taken (view_of W₁ s))
+  pub question-takes : b ≡ true → {W₂ W₃ : List ℕ} {s₂ : State} {t : Option Turn} → Becomes W₁ W₂ s₂ (taken (view_of W₁ s))
       → Turns W₂ W₃ t (wait_turn at 805830656 (view_of W₂ s₂)) → Turns W W₃ t (question_turn at v)
   unfolding question_turn
   question-takes y d w = rw (tells ∙ y, question_turn) (then-turn (wait_turn at 805830656) (then taken a d) w)
 
-  pub question-asks : b ≡ false → {W₂ : List ℕ} {t : Turn} → Turns W₁ W₂ t (wait_turn at 805830656 (view_of W₁ s))
+  pub question-asks : b ≡ false → {W₂ : List ℕ} {t : Option Turn} → Turns W₁ W₂ t (wait_turn at 805830656 (view_of W₁ s))
       → Turns W W₂ t (question_turn at v)
   unfolding question_turn
   question-asks n w = rw (tells ∙ n, question_turn) (then-turn (wait_turn at 805830656) a w)
@@ -87,7 +92,7 @@ pair-above w e z = let n = eqb-true (w / 67108864 % 2) 1 e in omega (arith, n, z
 -- ---- the end
 
 pub end-done : {W W₁ : List ℕ} {s : State} (v : View) → Becomes W W₁ s (settled 268435456 v) → s.top / 32768 ≡ 7
-    → Turns W W₁ (Done s.out) (end_turn v)
+    → Turns W W₁ (Some (Done s.out)) (end_turn v)
 unfolding end_turn view_of
 end-done v a t =
     let e : eqb (top_word (settled 268435456 v).stack / 32768) 7 ≡ true = rw (← top_of a, t) refl in

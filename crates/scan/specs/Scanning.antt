@@ -1,13 +1,11 @@
 -- What `scan` asks and ensures: a list of whole tokens, 4,096 at most, and words to walk it in; if it does not give up, the model's walk
 -- of the list comes to its end, and its records stand at the words' end.
-use Rattle.std.specs.Prelude.{ℕ, ◌%◌, ◌≤◌, ◌≡◌, false, List, [], ◌∷◌, ℤ, length, drop}
+use Rattle.std.specs.Prelude.{ℕ, ◌%◌, ◌≤◌, ◌≡◌, false, List, [], ◌∷◌, Option, Some, None, ℤ, length, drop}
 use Rattle.molang.specs.Operator
 use Rattle.molang.specs.Operator.{any}
 use Rattle.molang.specs.Order.{rules}
 use Rattle.molang.specs.Parse.{in_halves}
 use Rattle.ops.specs.declared.sets.OpSet.{OpSet}
-use Rattle.scan.specs.declared.scan.Scanned.{Scanned}
-use Rattle.scan.specs.declared.scan.Scanned.TheVariants.{Records, GivesUp}
 use Rattle.scan.specs.Tables.{table_of}
 use Rattle.scan.specs.Views.{View}
 use Rattle.scan.specs.Turns.{want, done, Walks, start}
@@ -26,21 +24,21 @@ pub record ComesToEnd (list table : List ℕ) (used : OpSet) (W : List ℕ) (fro
   pub records : drop from W ≡ view.records
 
 -- The records, or nothing.
-pub data ScanAnswers (list table : List ℕ) (used : OpSet) (W : List ℕ) : Scanned → Type 0 where
-  reached : {from : ℕ} → ComesToEnd list table used W from → ScanAnswers list table used W (Records from)
-  stopped : ScanAnswers list table used W GivesUp
+pub data ScanAnswers (list table : List ℕ) (used : OpSet) (W : List ℕ) : Option ℕ → Type 0 where
+  reached : {from : ℕ} → ComesToEnd list table used W from → ScanAnswers list table used W (Some from)
+  stopped : ScanAnswers list table used W None
 
-pub record HasGone (list table : List ℕ) (used : OpSet) (W W' : List ℕ) (r : Scanned) : Type 0 where
+pub record HasGone (list table : List ℕ) (used : OpSet) (W W' : List ℕ) (r : Option ℕ) : Type 0 where
   pub answers : ScanAnswers list table used W' r
   pub long : length W' ≡ length W
 
 -- The same under the table of a version; the used set of a list that was walked has neither `=` nor `;`.
-pub data Scans (list : List ℕ) (used : OpSet) (version : ℤ) (W : List ℕ) : Scanned → Type 0 where
+pub data Scans (list : List ℕ) (used : OpSet) (version : ℤ) (W : List ℕ) : Option ℕ → Type 0 where
   found : {from : ℕ} → ComesToEnd list (table_of (rules version)) used W from
       → any (in_halves used.low used.high) (Operator.assignment ∷ Operator.semicolon ∷ []) ≡ false
-      → Scans list used version W (Records from)
-  none : Scans list used version W GivesUp
+      → Scans list used version W (Some from)
+  none : Scans list used version W None
 
-pub record HasScanned (list : List ℕ) (used : OpSet) (version : ℤ) (W W' : List ℕ) (r : Scanned) : Type 0 where
+pub record HasScanned (list : List ℕ) (used : OpSet) (version : ℤ) (W W' : List ℕ) (r : Option ℕ) : Type 0 where
   pub scans : Scans list used version W' r
   pub long : length W' ≡ length W

@@ -1,17 +1,18 @@
 -- THE WALK'S STATE IN WORDS: what waits is a stack of one word each from the first word on, the records stand at the words' end.
 -- Everything that the walk does to the words is said of the view that they are of, and nothing of the words between.
-use Rattle.std.specs.Prelude.{ℕ, zero, suc, ◌-◌, ◌%◌, ◌≤◌, ◌<◌, ◌≡◌, Bool, true, false, ◌||◌, List, [], ◌∷◌, length, get_or, drop, eqb, leb}
+use Rattle.std.specs.Prelude.{ℕ, zero, suc, ◌-◌, ◌%◌, ◌≤◌, ◌<◌, ◌≡◌, Bool, true, false, ◌||◌, List, [], ◌∷◌, Option, Some, None, length, get_or, drop, eqb, leb}
 use Rattle.molang.specs.Operator
 use Rattle.molang.specs.Words.{tokens_of}
 use Rattle.molang.specs.Parse.{in_halves}
 use Rattle.ops.specs.declared.sets.OpSet.{OpSet}
+use Rattle.scan.specs.declared.given.Given.{Given}
 use Rattle.scan.specs.declared.stack.State.{State}
 use Rattle.scan.specs.declared.steps.Turn.{Turn}
-use Rattle.scan.specs.declared.steps.Turn.TheVariants.{Want, Have, Done, GivesUp}
+use Rattle.scan.specs.declared.steps.Turn.TheVariants.{Want, Have, Done}
 use Rattle.scan.specs.Entries.{token_at}
 use Rattle.scan.specs.Tables.{entry_in}
 use Rattle.scan.specs.Views.{View, top_word, Based}
-use Rattle.scan.specs.Turns.{Walking, Turning, want, have, done, have_class, Walks, start}
+use Rattle.scan.specs.Turns.{Walking, Turning, want, have, done, Walks, start}
 
 -- The words of a stack so deep, from the top.
 unfoldable pub stack_of : List ℕ → ℕ → List ℕ
@@ -57,11 +58,11 @@ pub record Becomes (W W' : List ℕ) (r : State) (v : View) : Type 0 where
   pub long : length W' ≡ length W
 
 -- The words W are now W', and the turn is the answer, or the walk gives up.
-pub data Turns (W W' : List ℕ) : Turn → Turning → Type 0 where
-  wants : {t : State} {v : View} → Becomes W W' t v → Turns W W' (Want t) (want v)
-  haves : {t : State} {v : View} → Becomes W W' t v → Turns W W' (Have t) (have v)
-  ends : {n : ℕ} {v : View} → n ≤ length W' → drop n W' ≡ v.records → length W' ≡ length W → Turns W W' (Done n) (done v)
-  stops : {a : Turning} → length W' ≡ length W → Turns W W' GivesUp a
+pub data Turns (W W' : List ℕ) : Option Turn → Turning → Type 0 where
+  wants : {t : State} {v : View} → Becomes W W' t v → Turns W W' (Some (Want t)) (want v)
+  haves : {t : State} {v : View} → Becomes W W' t v → Turns W W' (Some (Have t)) (have v)
+  ends : {n : ℕ} {v : View} → n ≤ length W' → drop n W' ≡ v.records → length W' ≡ length W → Turns W W' (Some (Done n)) (done v)
+  stops : {a : Turning} → length W' ≡ length W → Turns W W' None a
 
 -- ---- the list
 
@@ -80,10 +81,12 @@ operator_before list at = elim (eqb at 0) [ true ↦ Operator.left_parenthesis |
 abbrev pub lets : OpSet → ℕ → Bool
 lets used n = leb 111 n || in_halves used.low used.high n
 
--- A list of whole tokens, 4,096 at most, up to a place between two of them.
+-- What the walk of a list is given, as the code has it.
+abbrev pub walking : Given → Walking
+walking g = given g.list.now g.table.now g.used
+
+-- A place of a list between two tokens.
 pub record UpTo (list : List ℕ) (at : ℕ) : Type 0 where
-  pub whole : length list % 5 ≡ 0
-  pub few : length list ≤ 20480
   pub place : at % 5 ≡ 0
   pub within : at ≤ length list
 
@@ -92,19 +95,11 @@ pub record LookedUp (list : List ℕ) (at op : ℕ) : Type 0 where
   pub found : op ≡ operator_of_place list at
   pub small : op < 4096
 
--- No entry of the table has a grade above 29: the number after it is below 2^32.
-abbrev pub IsLow : List ℕ → Type 0
-IsLow table = (n : ℕ) → entry_in table n < 4026531840
-
 -- A state from which the walk can make a turn.
 pub record CanMakeTurn (list W : List ℕ) (s : State) : Type 0 where
   pub sound : Sound W s
   pub based : Based (stack_of W s.depth)
   pub place : UpTo list s.left
-
--- Only openers have the class of openers.
-abbrev pub HasOpeners : List ℕ → Type 0
-HasOpeners table = (n : ℕ) → have_class (entry_in table n) ≡ 2 → n ≤ 4
 
 -- ---- the walk
 
@@ -112,18 +107,3 @@ HasOpeners table = (n : ℕ) → have_class (entry_in table n) ≡ 2 → n ≤ 4
 pub record Goes (list table : List ℕ) (used : OpSet) (answer : View → Turning) (W : List ℕ) (s : State) : Type 0 where
   pub can : CanMakeTurn list W s
   pub walks : Walks (given list table used) (want (start (length list))) (answer (view_of W s))
-  pub low : IsLow table
-  pub openers : HasOpeners table
-
--- It came to a turn, at a place below l; or to the end, where the records from a word on are those of the walk; or it gave up.
-pub data CameTo (list table : List ℕ) (used : OpSet) (l : ℕ) (W : List ℕ) : Turn → Type 0 where
-  to-want : {t : State} → Goes list table used want W t → t.left < l → CameTo list table used l W (Want t)
-  to-have : {t : State} → Goes list table used have W t → t.left < l → CameTo list table used l W (Have t)
-  to_end : {n : ℕ} {v : View} → Walks (given list table used) (want (start (length list))) (done v) → n ≤ length W → drop n W ≡ v.records
-      → CameTo list table used l W (Done n)
-  nowhere : CameTo list table used l W GivesUp
-
--- The same, and the words are as many as before.
-pub record WentOn (list table : List ℕ) (used : OpSet) (l : ℕ) (W W' : List ℕ) (r : Turn) : Type 0 where
-  pub came : CameTo list table used l W' r
-  pub long : length W' ≡ length W

@@ -1,8 +1,9 @@
 -- THE TABLE: an entry for each operator of document 01 and a last one for every host's name, under the rules of a version. Its bits: 0-2
 -- what the operator is where an operand is wanted, 3-6 where one has been read, 7-8 what a minus after it is, 9-10 how it is called, 27-31
 -- its grade.
-use Rattle.std.specs.Prelude.{ℕ, true, false, List, [], ◌∷◌, ltb, get_or}
+use Rattle.std.specs.Prelude.{ℕ, ◌≤◌, ◌<◌, ◌≡◌, true, false, List, [], ◌∷◌, ltb, get_or}
 use Rattle.molang.specs.Order.{Rules}
+use Rattle.scan.specs.Turns.{have_class}
 
 unfoldable pub below_five : List ℕ
 below_five =
@@ -41,3 +42,11 @@ table_of r = elim r.pairs_right [ false ↦ below_five | true ↦ elim r.and_fir
 -- An operator's entry in a table: from 111 on all numbers share the last.
 unfoldable pub entry_in : List ℕ → ℕ → ℕ
 entry_in table n = get_or table (elim (ltb n 111) [ true ↦ n | false ↦ 111 ]) 0
+
+-- No entry of the table has a grade above 29: the number after it is below 2^32.
+abbrev pub IsLow : List ℕ → Type 0
+IsLow table = (n : ℕ) → entry_in table n < 4026531840
+
+-- Only openers have the class of openers.
+abbrev pub HasOpeners : List ℕ → Type 0
+HasOpeners table = (n : ℕ) → have_class (entry_in table n) ≡ 2 → n ≤ 4

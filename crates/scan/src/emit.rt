@@ -1,11 +1,12 @@
 // Emission: the records of the walk, one word for a node, become the tree words in the front of the caller's buffer. The token of a node is
-// read from the list only here. Leans on words.
+// read from the list only here. Leans on ops and words.
 ghost use Rattle.std.specs.Prelude.{◌≡◌, ◌+◌, ◌-◌, ◌≤◌, length, drop};
 ghost use Rattle.molang.specs.Parse.{in_front};
 ghost use Rattle.words.specs.Records.{laid_at};
 ghost use Rattle.scan.specs.Records.{token_place, closer_place, children_of, form_of, is_section};
 ghost use Rattle.scan.specs.Emit.{renamed_words, label_words, words_of_record, words_of_records, IsPlaced, CanEmitRecords};
 
+use ops::op;
 use words::fields;
 use words::tokens::TokenWords;
 
@@ -59,10 +60,7 @@ fn renamed(token: TokenWords, op: u32) -> TokenWords
 {
     TokenWords {
         operator: fields::with_operator(token.operator, op),
-        start: token.start,
-        end: token.end,
-        upper: token.upper,
-        lower: token.lower,
+        ..token
     }
 }
 
@@ -71,19 +69,13 @@ fn renamed(token: TokenWords, op: u32) -> TokenWords
 fn label(token: TokenWords, form: u32) -> TokenWords
     ensures { result ≡ label_words form token }
 {
-    if form == 0 {
-        return token;
+    match form {
+        0 => token,
+        1 => renamed(token, op::ADD),
+        2 => token.bare(op::NEGATE),
+        3 => token.bare(op::SEMICOLON),
+        _ => renamed(token, op::ARRAY),
     }
-    if form == 1 {
-        return renamed(token, 9);
-    }
-    if form == 2 {
-        return token.bare(6);
-    }
-    if form == 3 {
-        return token.bare(73);
-    }
-    renamed(token, 63)
 }
 
 // Writes the seven words of a record's node to the tree buffer from `to` on. `emit` has room for them, and the record's places.
@@ -104,12 +96,8 @@ pub(crate) fn emit(list: &[u32], work: &[u32], tree: &mut [u32], from: usize) ->
     ensures value { result ≡ length work.now - from }
     ensures tree_after { tree.new ≡ in_front (words_of_records list.now (drop from work.now)) tree.old }
 {
-    let mut r = from;
-    let mut to = 0usize;
-    while r < work.len() {
-        put(list, tree, work[r], to);
-        r += 1;
-        to += fields::NODE_WORDS;
+    for r in from..work.len() {
+        put(list, tree, work[r], fields::NODE_WORDS * (r - from));
     }
     work.len() - from
 }

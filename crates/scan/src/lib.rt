@@ -3,6 +3,7 @@
 #![tactic(auto)]
 
 mod emit;
+mod given;
 mod look;
 mod scan;
 mod sections;

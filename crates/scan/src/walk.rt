@@ -5,17 +5,12 @@ ghost use Rattle.scan.specs.Walk.{CanWalk};
 ghost use Rattle.scan.specs.Walked.{HasWalked};
 
 use crate::emit::emit;
-use crate::scan::{Scanned, scan};
+use crate::scan::scan;
 use ops::sets::OpSet;
 
-// A tree of so many nodes, whose words fill the front of the tree buffer; or nothing, and another way of reading has to be taken.
-#[derive(Clone, Copy)]
-pub enum Walked {
-    Tree(usize),
-    GivesUp,
-}
-
-// Reads a well-formed text in one walk. `parse`'s `read` calls it, if `accept` found no fault, with buffers as long as the entry asks.
+// Reads a well-formed text in one walk: gives back the number of nodes of its tree, whose words fill the front of the tree buffer; or
+// nothing, and another way of reading has to be taken. `parse`'s `read` calls it, if `accept` found no fault, with buffers as long as the
+// entry asks.
 pub fn walk(
     list: &[u32],
     work: &mut [u32],
@@ -23,16 +18,11 @@ pub fn walk(
     n: usize,
     used: OpSet,
     version: i16,
-) -> Walked
+) -> Option<usize>
     requires { CanWalk list.now work.old tree.old n }
     ensures { HasWalked list.now (in_halves used.low used.high) version tree.old tree.new result }
 {
-    let scanned = scan(list, work, used, version);
-    match scanned {
-        Scanned::Records(from) => {
-            let nodes = emit(list, work, tree, from);
-            Walked::Tree(nodes)
-        }
-        Scanned::GivesUp => Walked::GivesUp,
-    }
+    let from = scan(list, work, used, version)?;
+    let nodes = emit(list, work, tree, from);
+    Some(nodes)
 }

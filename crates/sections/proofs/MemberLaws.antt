@@ -12,11 +12,11 @@ use Rattle.nodes.proofs.Runs.{set_same, set_other, set_long, seg-keep, seg_b-kee
 use Rattle.nodes.proofs.Store.{rep-le, rep-count, tree-first, tree-below, tree-out, back-le, back_count}
 use Rattle.nodes.proofs.Keeping.{free-above, free_part, kept_then, kept-part, rep-beside, tree-beside, back-beside}
 use Rattle.nodes.proofs.Trees.{tree-under, tree-op, attach-tree, attach-kept}
-use Rattle.sections.specs.Flat.{failed, Stands, Fails, CanJoin, MemberAt, Written, WithMember, Membered}
-use Rattle.sections.specs.declared.Flat.TheVariants.{Fail}
+use Rattle.sections.specs.Flat.{Stands, Fails, CanJoin, MemberAt, Written, WithMember, Membered}
 use Rattle.sections.proofs.SectionWritten.{written_none, written-raise, written-more, store_kept, written-array}
 use Rattle.sections.proofs.SectionCases.{members-other, members-joined, members-leading, joined-under, joined-after}
 use Rattle.levels.specs.Failures as failures
+use Rattle.levels.specs.Failures.{Tells}
 use Rattle.levels.specs.declared.failure.Failure.TheVariants.{LeadingMemberAccessor}
 
 -- ---- what is written
@@ -230,7 +230,7 @@ module _ {W₀ : List ℕ} {base n : ℕ} {g : CanJoin W₀ base n} {W : List �
   join-in = omega (arith, g.room, g.below, v.long, v.behind, v.count, join-high, tree-below v.tree)
 
   -- no token is before it
-  pub join-leading : op_at W item ≡ member_accessor → write ≡ 0 → Fails W (members nil (leaves g.ks)) (Fail (LeadingMemberAccessor item))
+  pub join-leading : op_at W item ≡ member_accessor → write ≡ 0 → Fails (Tells W) (members nil (leaves g.ks)) (LeadingMemberAccessor item)
   unfolding count
   join-leading o z =
       let op : v.k.op ≡ member_accessor = sym (tree-op v.tree) ∙ o in
@@ -238,7 +238,7 @@ module _ {W₀ : List ℕ} {base n : ℕ} {g : CanJoin W₀ base n} {W : List �
       record {
         messages = leading_member_accessor v.k ∷ [];
         is = sym v.answer ∙ rw empty (members-leading v.k nil (leaves v.rest) op);
-        told = failed (failures.leading_member_accessor v.tree.token);
+        told = failures.leading_member_accessor v.tree.token;
       }
     where
       nothing : (d : Forest) → count d ≡ 0 → d ≡ nil

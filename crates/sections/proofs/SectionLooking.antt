@@ -15,7 +15,8 @@ use Rattle.nodes.{proofs.Tokens.{token-closed}, proofs.Store.{reserve-pos, rep-l
 use Rattle.nodes.proofs.Keeping.{free-above, free_part, tree-beside, give_kept}
 use Rattle.nodes.proofs.Trees.{tree-op, array-give, owned-tree, owned-leaf, owned-store, give-owned, give-token}
 use Rattle.sections.specs.Flat.{Opener, Standing, outer, inner, LookAt, Follows, on, ends, Closed, Looked, Named}
-use Rattle.sections.specs.{declared.Reached.{Reached}, declared.Bracket.{Bracket}, declared.Bracket.TheVariants.{On, Differs}}
+use Rattle.std.specs.Prelude.{Result, Ok, Err}
+use Rattle.sections.specs.{declared.Reached.{Reached}, declared.Differs.{Differs}}
 use Rattle.levels.specs.{Failures.{mismatched}, declared.failure.Unclosed.{Unclosed}}
 use Rattle.sections.proofs.SectionCases.{missed, other-closes, classless, opener-leaf, bracket-opens, bracket-closes, bracket-places}
 use Rattle.sections.proofs.{SectionCases.{closing-takes, closing-differs}, SectionWritten.{written-array}}
@@ -89,7 +90,7 @@ pub close-differs : {W X : List ℕ} {base marks lo l m k w item depth : ℕ} {s
     → (p x y i : ℕ) (u : Unclosed) → p ≡ wd W (marks + 2 * (k - 1)) → x ≡ get_or (closing_of (op_at W (wd W (base + p)))) 0
     → y ≡ op_at W item → x ≢ y → Named W base marks k u
     → Follows W X base marks lo m w i
-    (Differs (record { opener = u.inner; start = u.start; closer = item; index = i; outer = u.outer }) depth) (closing t cs i s)
+    (Err (record { mismatch = record { opener = u.inner; start = u.start; closer = item; index = i; outer = u.outer }; remaining = depth })) (closing t cs i s)
 unfolding closer
 close-differs (outer v e) n tree p x y i u ep ex ey h a = absurd (n e)
 close-differs {t = t} {cs = cs} (inner {i = j} {o = o} {d = d} {s = s'} st z v e) n tree p x y i u ep ex ey h a =
@@ -106,7 +107,7 @@ close-differs {t = t} {cs = cs} (inner {i = j} {o = o} {d = d} {s = s'} st z v e
 -- they were.
 abbrev Closes : List ℕ → List ℕ → List ℕ → ℕ → ℕ → ℕ → ℕ → ℕ → ℕ → ℕ → ℕ → Walked → Type 0
 Closes W W' X base marks lo m k w p i walked =
-    Follows W' X base marks lo m w i (On (record { write = p + 1; depth = k - 1; index = i })) walked
+    Follows W' X base marks lo m w i (Ok (record { write = p + 1; depth = k - 1; index = i })) walked
     × ((j : ℕ) → Free X lo m j → wd W' j ≡ wd W j)
 
 -- it is the innermost section's: the words of its interval change, and no others
@@ -155,7 +156,7 @@ pub close-closed : {W : List ℕ} {base marks k w item : ℕ} → k ≢ 0 → (p
     → x ≡ get_or (closing_of (op_at W (wd W (base + p)))) 0 → y ≡ op_at W item → x ≡ y
     → Given W (wd W (base + p)) (base + (p + 1)) (w - (p + 1)) W1
     → W' ≡ set W1 (close_word (wd W (base + p))) (word 7 (end_at W1 item)) → slot_end (wd W (base + p)) ≤ length W1
-    → Closed W base marks w k i item (On (record { write = p + 1; depth = k - 1; index = i })) W'
+    → Closed W base marks w k i item (Ok (record { write = p + 1; depth = k - 1; index = i })) W'
 close-closed {W} {base} {marks} {k} {w} {item} n p x y i W1 W' ep ex ey h a close room =
     record {
       answer = λ g. (takes g).0;
@@ -177,8 +178,8 @@ pub record Went (W X : List ℕ) (base marks lo hi w i : ℕ) (a : Reached) (x :
   pub more : a.write ≤ w + 1
   pub index : a.index ≡ i
 
-pub went : {W X : List ℕ} {base marks lo hi w i : ℕ} {r : Bracket} {x : Walked} (a : Reached) → Follows W X base marks lo hi w i r x → r
-    ≡ On a
+pub went : {W X : List ℕ} {base marks lo hi w i : ℕ} {r : Result Reached Differs} {x : Walked} (a : Reached) → Follows W X base marks lo hi w i r x → r
+    ≡ Ok a
     → Went W X base marks lo hi w i a x
 went {W} {X} {base} {marks} {lo} {hi} {w} {i} a (on {a = b} {t = t} st m n) e =
     let same : b ≡ a = cc in
@@ -203,7 +204,7 @@ module _ {W : List ℕ} {base marks write depth item : ℕ} (g : LookAt W base m
   look_in = omega (arith, tree-below g.tree, g.below)
 
   -- the position that the code counts is the definition's
-  pub look-position : (index i : ℕ) (b : Bracket) (W' : List ℕ) → (depth ≡ 0 → i ≡ write) → (depth ≢ 0 → i ≡ index + 1)
+  pub look-position : (index i : ℕ) (b : Result Reached Differs) (W' : List ℕ) → (depth ≡ 0 → i ≡ write) → (depth ≢ 0 → i ≡ index + 1)
       → Follows W' g.X base marks g.lo g.m write i b (bracket g.k g.cs i g.s)
       → Follows W' g.X base marks g.lo g.m write (position index g.s) b (bracket g.k g.cs (position index g.s) g.s)
   look-position index i b W' p q f =
@@ -212,7 +213,7 @@ module _ {W : List ℕ} {base marks write depth item : ℕ} (g : LookAt W base m
 
   -- where the walk goes on, as many sections stand as the definition has open
   pub look-open : (i : ℕ) (a : Reached) (W' : List ℕ)
-      → Follows W' g.X base marks g.lo g.m write i (On a) (bracket g.k g.cs i g.s)
+      → Follows W' g.X base marks g.lo g.m write i (Ok a) (bracket g.k g.cs i g.s)
       → a.depth ≡ open_after depth (op_at W item)
   look-open i a W' f =
       let w = went a f refl in
@@ -232,7 +233,7 @@ module _ {W : List ℕ} {base marks write depth item : ℕ} (g : LookAt W base m
   -- a token that is written as it is
   pub look-places : (i : ℕ) (W' : List ℕ) → W' ≡ set W (base + write) item
       → bracket g.k g.cs i g.s ≡ going (placed g.k g.cs g.s)
-      → Follows W' g.X base marks g.lo g.m write i (On (record { write = write + 1; depth = depth; index = i }))
+      → Follows W' g.X base marks g.lo g.m write i (Ok (record { write = write + 1; depth = depth; index = i }))
       (bracket g.k g.cs i g.s)
   look-places i W' e is =
       let other = set_other W W' (base + write) item e in
@@ -256,7 +257,7 @@ module _ {W : List ℕ} {base marks write depth item : ℕ} (g : LookAt W base m
   pub look-opens : (o i : ℕ) (a : Reached) (W' : List ℕ) → o ≡ op_at W item → is_opener o ≡ true
       → W' ≡ set (set (set W (base + write) item) (marks + 2 * depth) write) (marks + 2 * depth + 1) (i + 1) → a.write ≡ write + 1
       → a.depth ≡ depth + 1 → a.index ≡ i
-      → Follows W' g.X base marks g.lo g.m write i (On a) (bracket g.k g.cs i g.s)
+      → Follows W' g.X base marks g.lo g.m write i (Ok a) (bracket g.k g.cs i g.s)
   look-opens o i a W' eo h e aw ad ai =
       let is : is_opener g.k.op ≡ true = ap is_opener (sym (eo ∙ tree-op g.tree)) ∙ h in
       let W1 = set W (base + write) item in
@@ -278,7 +279,7 @@ module _ {W : List ℕ} {base marks write depth item : ℕ} (g : LookAt W base m
       let here : Standing W' g.X base marks g.lo g.m a.depth a.write (section g.k (i + 1) nil g.s) = rw (ad, aw) all in
       rw (bracket-opens g.k g.cs i g.s is) (on here (omega arith) ai)
 
-  pub look-closes : (o i : ℕ) (r : Bracket) (W' : List ℕ) → o ≡ op_at W item → is_opener o ≡ false → is_closer o ≡ true
+  pub look-closes : (o i : ℕ) (r : Result Reached Differs) (W' : List ℕ) → o ≡ op_at W item → is_opener o ≡ false → is_closer o ≡ true
       → Closed W base marks write depth i item r W'
       → Follows W' g.X base marks g.lo g.m write i r (bracket g.k g.cs i g.s)
   look-closes o i r W' e h c w =
@@ -289,12 +290,12 @@ module _ {W : List ℕ} {base marks write depth item : ℕ} (g : LookAt W base m
 pub looked-on : {W : List ℕ} {base marks write depth item : ℕ} → LookAt W base marks write depth item
     → (index i : ℕ) (a : Reached) (W' : List ℕ) → (depth ≡ 0 → i ≡ write) → (depth ≢ 0 → i ≡ index + 1)
     → ((g : LookAt W base marks write depth item)
-    → Follows W' g.X base marks g.lo g.m write i (On a) (bracket g.k g.cs i g.s))
+    → Follows W' g.X base marks g.lo g.m write i (Ok a) (bracket g.k g.cs i g.s))
     → ((j : ℕ) → (j < base) ⊎ (base + write < j) → (j < marks) ⊎ (marks + 2 * depth + 2 ≤ j) → wd W' j ≡ wd W j)
     → length W' ≡ length W
-    → Looked W base marks write depth index item (On a) W' × (a.depth ≡ open_after depth (op_at W item))
+    → Looked W base marks write depth index item (Ok a) W' × (a.depth ≡ open_after depth (op_at W item))
 looked-on g index i a W' p q follows same long = (
-  record { answer = λ g. look-position g index i (On a) W' p q (follows g); same = λ g j f x y. same j x y; long = long },
+  record { answer = λ g. look-position g index i (Ok a) W' p q (follows g); same = λ g j f x y. same j x y; long = long },
   look-open g i a W' (follows g),
 )
 

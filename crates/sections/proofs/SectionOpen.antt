@@ -8,8 +8,8 @@ use Rattle.molang.{specs.Forest.{Token, Forest, nil, in_order}, specs.Message.{s
 use Rattle.molang.{specs.Sections.{Open, section, placed, position, outermost, closed}, proofs.OpenCount.{depth_of}}
 use Rattle.ops.specs.Operators.{is_opener}
 use Rattle.nodes.{specs.Store.{wd, slot_start, TokenAt, RepT}, proofs.Store.{tree-below, back-le, back_count}, proofs.Keeping.{tree-beside}}
-use Rattle.sections.specs.Flat.{unclosed, Fails, Written, Opener, Standing, outer, inner, NamedAt, Named}
-use Rattle.sections.specs.declared.Flat.TheVariants.{Unclosed as Unclosing}
+use Rattle.sections.specs.Flat.{FlatTells, unclosed, Fails, Written, Opener, Standing, outer, inner, NamedAt, Named}
+use Rattle.levels.specs.declared.failure.Fault.TheVariants.{Unclosed as Unclosing}
 use Rattle.levels.specs.Failures as failures
 use Rattle.levels.specs.declared.failure.Unclosed.{Unclosed}
 use Rattle.sections.proofs.SectionWritten.{written_none, written-raise, written-keep, written-put}
@@ -167,7 +167,7 @@ names {w' = w'} st x n =
 
 pub standing-unclosed : {W X : List ℕ} {base marks lo hi k w : ℕ} {s : Open} {u : Unclosed} → Standing W X base marks lo hi k w s → k ≢ 0
     → Named W base marks k u
-    → Fails W (closed s) (Unclosing u)
+    → Fails (FlatTells W) (closed s) (Unclosing u)
 unfolding closed
 standing-unclosed (outer v e) n a = absurd (n e)
 standing-unclosed {u = u} (inner {o = o} {s = s} st x v e) n a =

@@ -8,10 +8,12 @@ use Rattle.molang.specs.{Forest.{Token, Forest, nil, node, in_order, count}, Mes
 use Rattle.molang.specs.{Sections.{Open, outside, position, Walked, mismatch, sections}, Free.{flat}}
 use Rattle.nodes.{specs.Store.{wd, Seg, RepF, RepT, Kept}, proofs.Runs.{seg-keep}, proofs.Store.{rep-le, rep-count, tree-first, back_count}}
 use Rattle.nodes.proofs.Keeping.{free-above, free_part, kept_then, rep-beside}
-use Rattle.sections.specs.Flat.{mismatched, Stands, Fails, Standing, outer, inner, LookAt, Follows, on, ends, Looked, NamedAt, Named}
-use Rattle.sections.specs.{Flat.{CanSection}, declared.Flat.TheVariants.{Mismatched, Unclosed as Unclosing}}
-use Rattle.sections.specs.{declared.Reached.{Reached}, declared.Bracket.{Bracket}, declared.Bracket.TheVariants.{On, Differs}}
-use Rattle.levels.specs.{Failures.{TellsMismatch}, declared.failure.Mismatch.{Mismatch}, declared.failure.Unclosed.{Unclosed}}
+use Rattle.sections.specs.Flat.{FlatTells, mismatched, Stands, Fails, Standing, outer, inner, LookAt, Follows, on, ends, Looked, NamedAt, Named}
+use Rattle.std.specs.Prelude.{Result, Ok, Err}
+use Rattle.sections.specs.Flat.{CanSection}
+use Rattle.levels.specs.declared.failure.Fault.TheVariants.{Mismatched, Unclosed as Unclosing}
+use Rattle.sections.specs.{declared.Reached.{Reached}, declared.Differs.{Differs}}
+use Rattle.levels.specs.{Failures.{TellsMismatch}, declared.failure.Unclosed.{Unclosed}}
 use Rattle.sections.proofs.SectionCases.{flat-first, sections-go, sections-end}
 use Rattle.sections.proofs.SectionWritten.{written_none, written-raise, written-array}
 use Rattle.sections.proofs.SectionOpen.{standing-written, standing-raise, standing-named, standing-unclosed, standing-outside}
@@ -19,13 +21,12 @@ use Rattle.sections.proofs.SectionLooking.{went}
 
 -- ---- what a token leaves
 
-ended : {W X : List ℕ} {base marks lo hi w i : ℕ} {r : Bracket} {x : Walked} (m : Mismatch) → Follows W X base marks lo hi w i r x
-    → (depth : ℕ) → r ≡ Differs m depth
-    → (ms : List Message) × (x ≡ mismatch ms) × TellsMismatch W m ms
-ended m (on st w n) depth e = let z : ◌≡◌ {A = ℕ} 0 1 = cc in absurd (omega arith)
-ended {W} m (ends {m = b} {ms = ms} t) depth e =
-    let same : b ≡ m = cc in
-    (ms, refl, subst (λ (m : Mismatch). TellsMismatch W m ms) same t)
+ended : {W X : List ℕ} {base marks lo hi w i : ℕ} {r : Result Reached Differs} {x : Walked} (d : Differs)
+    → Follows W X base marks lo hi w i r x → r ≡ Err d → (ms : List Message) × (x ≡ mismatch ms) × TellsMismatch W d.mismatch ms
+ended d (on st w n) e = let z : ◌≡◌ {A = ℕ} 0 1 = cc in absurd (omega arith)
+ended {W} d (ends {d = b} {ms = ms} t) e =
+    let same : b ≡ d = cc in
+    (ms, refl, subst (λ (d : Differs). TellsMismatch W d.mismatch ms) same t)
 
 -- no token counts more than those that are read
 position-near : {W X : List ℕ} {base marks lo hi k w i read : ℕ} {s : Open} → Standing W X base marks lo hi k w s → w ≤ read → i ≤ read
@@ -155,7 +156,7 @@ module _ {W₀ : List ℕ} {base n : ℕ} {g : CanSection W₀ base n} {W : List
       }
 
   -- the words that a token leaves as they were, among them those of the list that are not read yet
-  turn-kept : {r : Bracket} {W' : List ℕ} → Looked W base (base + n) write depth index item r W'
+  turn-kept : {r : Result Reached Differs} {W' : List ℕ} → Looked W base (base + n) write depth index item r W'
       → Kept W₀ W' g.X g.lo g.hi base (base + n + 2 * n)
   turn-kept {W' = W'} w =
       let high = walk-high in let behind = v.behind in let count = v.count in
@@ -163,7 +164,7 @@ module _ {W₀ : List ℕ} {base n : ℕ} {g : CanSection W₀ base n} {W : List
       (λ j f o. w.same walk-look j (free_part g.X g.lo g.hi g.lo v.m j (le_refl g.lo) high.0 f)
       (⊎_elim (λ h. inl h) (λ h. inr (omega arith)) o) (⊎_elim (λ h. inl (omega arith)) (λ h. inr (omega arith)) o))
 
-  pub walk-on : (r : Bracket) (a : Reached) (W' : List ℕ) → Looked W base (base + n) write depth index item r W' → r ≡ On a
+  pub walk-on : (r : Result Reached Differs) (a : Reached) (W' : List ℕ) → Looked W base (base + n) write depth index item r W' → r ≡ Ok a
       → Walking W₀ base n g W' (read + 1) a.write a.depth a.index
   walk-on r a W' w e =
       let f = went a (w.answer walk-look) e in
@@ -193,11 +194,11 @@ module _ {W₀ : List ℕ} {base n : ℕ} {g : CanSection W₀ base n} {W : List
         },
       )
 
-  pub walk-differs : (r : Bracket) (m : Mismatch) (after : ℕ) (W' : List ℕ) → Looked W base (base + n) write depth index item r W'
-      → r ≡ Differs m after
-      → Fails W' (sections 0 (outside nil) g.f) (Mismatched m) × Kept W₀ W' g.X g.lo g.hi base (base + n + 2 * n)
-  walk-differs r m after W' w e =
-      let f = ended m (w.answer walk-look) after e in (
+  pub walk-differs : (r : Result Reached Differs) (d : Differs) (W' : List ℕ) → Looked W base (base + n) write depth index item r W'
+      → r ≡ Err d
+      → Fails (FlatTells W') (sections 0 (outside nil) g.f) (Mismatched d.mismatch) × Kept W₀ W' g.X g.lo g.hi base (base + n + 2 * n)
+  walk-differs r d W' w e =
+      let f = ended d (w.answer walk-look) e in (
         record {
           messages = f.0;
           is = sym v.answer ∙ sections-end v.k v.cs v.rest index v.s f.0 f.1;
@@ -233,7 +234,7 @@ module _ {W₀ : List ℕ} {base n : ℕ} {g : CanSection W₀ base n} {W : List
 
   pub walk-unclosed : (rs : List ℕ) (rest : Forest) → WalkAt W₀ base n g W read write depth index rs rest → n ≤ read → depth ≢ 0
       → (u : Unclosed) → Named W base (base + n) depth u
-      → Fails W (sections 0 (outside nil) g.f) (Unclosing u)
+      → Fails (FlatTells W) (sections 0 (outside nil) g.f) (Unclosing u)
   unfolding sections count
   walk-unclosed (b ∷ bs) rest v h z u a = absurd (omega (arith, v.count))
   walk-unclosed [] (node k cs rest) v h z u a = absurd (omega (arith, rep-count v.left))

@@ -1,10 +1,10 @@
 -- What the flat passes ask and ensure. The list is an array of slots; `members` and `sections` write it again from its start, and
 -- `sections` keeps two words for each open section above it. What is ensured is the definition's answer, as it then stands in the words.
-use Rattle.std.specs.Prelude.{ℕ, ◌+◌, ◌*◌, ◌-◌, ◌^◌, ◌≤◌, ◌<◌, ◌≡◌, ◌⊎◌, true, List, length, set}
+use Rattle.std.specs.Prelude.{ℕ, ◌+◌, ◌*◌, ◌-◌, ◌^◌, ◌≤◌, ◌<◌, ◌≡◌, ◌⊎◌, true, List, length, set, Result, Ok, Err}
 use Rattle.std.proofs.Math.Option.{some}
 use Rattle.molang.specs.Operator.{member_accessor}
 use Rattle.molang.specs.Forest.{Token, Forest, nil, node, leaves}
-use Rattle.molang.specs.Message.{Message, Result, ok, fail}
+use Rattle.molang.specs.Message.{Message, Result as Answer, ok, fail}
 use Rattle.molang.specs.Sections.{with_member, members, Open, outside, section, position, Walked, going, mismatch, closing}
 use Rattle.molang.specs.Sections.{bracket, sections}
 use Rattle.molang.specs.Free.{flat}
@@ -14,39 +14,36 @@ use Rattle.levels.specs.Failures.{Tells, TellsMismatch, TellsUnclosed}
 use Rattle.levels.specs.declared.failure.Failure.{Failure}
 use Rattle.levels.specs.declared.failure.Mismatch.{Mismatch}
 use Rattle.levels.specs.declared.failure.Unclosed.{Unclosed}
-use Rattle.sections.specs.declared.Flat.{Flat}
-use Rattle.sections.specs.declared.Flat.TheVariants.{Done, Fail, Mismatched, Unclosed as Unclosing}
+use Rattle.levels.specs.declared.failure.Fault.{Fault}
+use Rattle.levels.specs.declared.failure.Fault.TheVariants.{Failed, Mismatched, Unclosed as Unclosing}
 use Rattle.sections.specs.declared.Reached.{Reached}
-use Rattle.sections.specs.declared.Bracket.{Bracket}
-use Rattle.sections.specs.declared.Bracket.TheVariants.{On, Differs}
+use Rattle.sections.specs.declared.Differs.{Differs}
 
 -- ---- what a flat pass leaves
 
--- What a flat pass tells that did not end with a list.
-pub data FlatTells (W : List ℕ) : Flat → List Message → Type 0 where
-  failed : {f : Failure} {ms : List Message} → Tells W f ms → FlatTells W (Fail f) ms
+-- What a fault of the flat passes tells.
+pub data FlatTells (W : List ℕ) : Fault → List Message → Type 0 where
+  failed : {f : Failure} {ms : List Message} → Tells W f ms → FlatTells W (Failed f) ms
   mismatched : {m : Mismatch} {ms : List Message} → TellsMismatch W m ms → FlatTells W (Mismatched m) ms
   unclosed : {u : Unclosed} {ms : List Message} → TellsUnclosed W u ms → FlatTells W (Unclosing u) ms
 
 -- The definition's answer is a list, and it stands in the m words from `base` on.
-pub record Stands (W X : List ℕ) (base lo hi n : ℕ) (answer : Result) (m : ℕ) : Type 0 where
+pub record Stands (W X : List ℕ) (base lo hi n : ℕ) (answer : Answer) (m : ℕ) : Type 0 where
   pub forest : Forest
   pub is : answer ≡ ok forest
   pub array : InArray W X base m lo hi forest
   pub fewer : m ≤ n
 
--- The definition's answer is the messages that the failure tells.
-pub record Fails (W : List ℕ) (answer : Result) (r : Flat) : Type 0 where
+-- The definition's answer is the messages that the error tells.
+pub record Fails {E : Type 0} (Told : E → List Message → Type 0) (answer : Answer) (error : E) : Type 0 where
   pub messages : List Message
   pub is : answer ≡ fail messages
-  pub told : FlatTells W r messages
+  pub told : Told error messages
 
--- What a flat pass left is the definition's answer: the list in m words, or the messages of a failure.
-abbrev pub Answers : List ℕ → List ℕ → ℕ → ℕ → ℕ → ℕ → Result → Flat → Type 0
-Answers W X base lo hi n answer (Done m) = Stands W X base lo hi n answer m
-Answers W X base lo hi n answer (Fail f) = Fails W answer (Fail f)
-Answers W X base lo hi n answer (Mismatched m) = Fails W answer (Mismatched m)
-Answers W X base lo hi n answer (Unclosing u) = Fails W answer (Unclosing u)
+-- What a flat pass left is the definition's answer: the list in m words, or the messages of an error.
+abbrev pub Answers : {E : Type 0} → (E → List Message → Type 0) → List ℕ → List ℕ → ℕ → ℕ → ℕ → ℕ → Answer → Result ℕ E → Type 0
+Answers Told W X base lo hi n answer (Ok m) = Stands W X base lo hi n answer m
+Answers Told W X base lo hi n answer (Err error) = Fails Told answer error
 
 -- ---- `members`
 
@@ -61,8 +58,8 @@ pub record CanJoin (W : List ℕ) (base n : ℕ) : Type 0 where
   pub room : base + n ≤ length W
 
 -- What `members` left is the definition's `members` over the tokens.
-pub record Joined (W : List ℕ) (base n : ℕ) (r : Flat) (W' : List ℕ) : Type 0 where
-  pub answer : (g : CanJoin W base n) → Answers W' g.X base g.lo g.hi n (members nil (leaves g.ks)) r
+pub record Joined (W : List ℕ) (base n : ℕ) (r : Result ℕ Failure) (W' : List ℕ) : Type 0 where
+  pub answer : (g : CanJoin W base n) → Answers (Tells W') W' g.X base g.lo g.hi n (members nil (leaves g.ks)) r
   pub kept : (g : CanJoin W base n) → Kept W W' g.X g.lo g.hi base (base + n)
   pub long : length W' ≡ length W
 
@@ -156,26 +153,25 @@ pub record LookAt (W : List ℕ) (base marks write depth item : ℕ) : Type 0 wh
   pub room : marks + 2 * depth + 2 ≤ length W
 
 -- How many brackets are open after the token, if the walk goes on and if a closer differs.
-abbrev pub open_in : Bracket → ℕ
-open_in (On a) = a.depth
-open_in (Differs m depth) = depth
+abbrev pub open_in : Result Reached Differs → ℕ
+open_in (Ok a) = a.depth
+open_in (Err d) = d.remaining
 
 -- After the token at position i, w items being written before it: the walk goes on, or it ends, and the mismatch is told.
-pub data Follows (W X : List ℕ) (base marks lo hi w i : ℕ) : Bracket → Walked → Type 0 where
+pub data Follows (W X : List ℕ) (base marks lo hi w i : ℕ) : Result Reached Differs → Walked → Type 0 where
   on : {a : Reached} {t : Open} → Standing W X base marks lo hi a.depth a.write t → a.write ≤ w + 1 → a.index ≡ i
-      → Follows W X base marks lo hi w i (On a) (going t)
-  ends : {m : Mismatch} {depth : ℕ} {ms : List Message} → TellsMismatch W m ms
-      → Follows W X base marks lo hi w i (Differs m depth) (mismatch ms)
+      → Follows W X base marks lo hi w i (Ok a) (going t)
+  ends : {d : Differs} {ms : List Message} → TellsMismatch W d.mismatch ms → Follows W X base marks lo hi w i (Err d) (mismatch ms)
 
 -- A closer while a section is open: no word changes but those of the list's own slots.
-pub record Closed (W : List ℕ) (base marks write depth index item : ℕ) (r : Bracket) (W' : List ℕ) : Type 0 where
+pub record Closed (W : List ℕ) (base marks write depth index item : ℕ) (r : Result Reached Differs) (W' : List ℕ) : Type 0 where
   pub answer : (g : LookAt W base marks write depth item)
       → Follows W' g.X base marks g.lo g.m write index r (closing g.k g.cs index g.s)
   pub same : (g : LookAt W base marks write depth item) (j : ℕ) → Free g.X g.lo g.m j → wd W' j ≡ wd W j
   pub long : length W' ≡ length W
 
 -- Any token: besides, the next word of the array and the marks of one section more can change.
-pub record Looked (W : List ℕ) (base marks write depth index item : ℕ) (r : Bracket) (W' : List ℕ) : Type 0 where
+pub record Looked (W : List ℕ) (base marks write depth index item : ℕ) (r : Result Reached Differs) (W' : List ℕ) : Type 0 where
   pub answer : (g : LookAt W base marks write depth item)
       → Follows W' g.X base marks g.lo g.m write (position index g.s) r (bracket g.k g.cs (position index g.s) g.s)
   pub same : (g : LookAt W base marks write depth item) (j : ℕ) → Free g.X g.lo g.m j → (j < base) ⊎ (base + write < j)
@@ -211,7 +207,7 @@ pub record CanSection (W : List ℕ) (base n : ℕ) : Type 0 where
   pub small : n + 2 < 2 ^ 32
 
 -- What `sections` left is the definition's `sections` over the list.
-pub record Sectioned (W : List ℕ) (base n : ℕ) (r : Flat) (W' : List ℕ) : Type 0 where
-  pub answer : (g : CanSection W base n) → Answers W' g.X base g.lo g.hi n (sections 0 (outside nil) g.f) r
+pub record Sectioned (W : List ℕ) (base n : ℕ) (r : Result ℕ Fault) (W' : List ℕ) : Type 0 where
+  pub answer : (g : CanSection W base n) → Answers (FlatTells W') W' g.X base g.lo g.hi n (sections 0 (outside nil) g.f) r
   pub kept : (g : CanSection W base n) → Kept W W' g.X g.lo g.hi base (base + n + 2 * n)
   pub long : length W' ≡ length W

@@ -5,24 +5,16 @@
 ghost use Rattle.std.specs.Prelude.{◌≡◌, ◌≢◌, ◌+◌, ◌*◌, ◌-◌, ◌^◌, ◌≤◌, ◌<◌, length};
 ghost use Rattle.molang.specs.Nesting.{open_after};
 ghost use Rattle.nodes.specs.Store.{wd};
+ghost use Rattle.levels.specs.declared.failure.Fault.TheVariants.{Mismatched};
 ghost use Rattle.nodes.specs.Slots.{op_at};
 ghost use Rattle.sections.specs.Flat.{CanJoin, Joined, MemberAt, Membered, CanSection, Sectioned, CanOpen, Opened, LookAt, Looked};
 ghost use Rattle.sections.specs.Flat.{open_in, Closed, NamedAt, Named};
 ghost use Rattle.sections.specs.Matching.{LosesNothing};
 
-use levels::failure::{Failure, Mismatch, Unclosed};
+use levels::failure::{Failure, Fault, Mismatch, Unclosed};
 use nodes::{children, slots};
 use ops::{closer_of, is_closer, is_opener, op, takes_member};
 use words::fields::wide;
-
-// What a flat pass leaves: how many items, or why it fails.
-#[derive(Clone, Copy)]
-pub enum Flat {
-    Done(usize),
-    Fail(Failure),
-    Mismatched(Mismatch),
-    Unclosed(Unclosed),
-}
 
 // A member accessor takes a variable, a query or an accessor before it as its child. How many items are then done.
 fn member(work: &mut [u32], base: usize, write: usize, item: u32) -> usize
@@ -39,19 +31,17 @@ fn member(work: &mut [u32], base: usize, write: usize, item: u32) -> usize
     write + 1
 }
 
-// The member pass over the n slots from base on. `grouping::group` calls it with the loaded tokens.
-pub fn members(work: &mut [u32], base: usize, n: usize) -> Flat
+// The member pass over the n slots from base on; how many items it leaves. `grouping::group` calls it with the loaded tokens.
+pub fn members(work: &mut [u32], base: usize, n: usize) -> Result<usize, Failure>
     requires { CanJoin work.old base n }
     ensures { Joined work.old base n result work.new }
 {
-    let mut read = 0usize;
     let mut write = 0usize;
-    while read < n {
+    for read in 0..n {
         let item = work[base + read];
-        read += 1;
         if slots::operator_bits_of(work, item) == op::MEMBER_ACCESSOR {
             if write == 0 {
-                return Flat::Fail(Failure::LeadingMemberAccessor(item));
+                return Err(Failure::LeadingMemberAccessor(item));
             }
             write = member(work, base, write, item);
         } else {
@@ -59,7 +49,7 @@ pub fn members(work: &mut [u32], base: usize, n: usize) -> Flat
             write += 1;
         }
     }
-    Flat::Done(write)
+    Ok(write)
 }
 
 // How far the section walk is: how many items are written, how many sections are open, and the index of the last token as
@@ -72,11 +62,19 @@ pub struct Reached {
     pub index: usize,
 }
 
-// What the walk makes of one token: it goes on, or a closer does not match. Both say how many brackets are open after the token.
-#[derive(Clone, Copy)]
-pub enum Bracket {
-    On(Reached),
-    Differs(Mismatch, usize),
+// A closer that does not match, and how many brackets are open after it.
+#[derive(Clone, Copy, Debug, PartialEq, Eq)]
+pub struct Differs {
+    pub mismatch: Mismatch,
+    pub remaining: usize,
+}
+
+impl From<Differs> for Fault {
+    ghost from_gives = { λ differs fault. fault ≡ Mismatched differs.mismatch };
+
+    fn from(differs: Differs) -> Self {
+        Fault::Mismatched(differs.mismatch)
+    }
 }
 
 // The index of the next token: outside every section the number of items before it.
@@ -133,7 +131,13 @@ fn open_section(work: &mut [u32], base: usize, marks: usize, at: Reached, opener
 
 // A closer in an open section: it closes the innermost one, which closes at its end and takes what was written after its opener, or
 // it differs. Either way one bracket fewer is open.
-fn close_section(work: &mut [u32], base: usize, marks: usize, at: Reached, closer: u32) -> Bracket
+fn close_section(
+    work: &mut [u32],
+    base: usize,
+    marks: usize,
+    at: Reached,
+    closer: u32,
+) -> Result<Reached, Differs>
     requires { LookAt work.old base marks at.write at.depth closer × (at.depth ≢ 0) × (at.index < 2 ^ 32) }
     ensures closed { Closed work.old base marks at.write at.depth at.index closer result work.new }
     ensures result_value { open_in result ≡ at.depth - 1 }
@@ -150,12 +154,15 @@ fn close_section(work: &mut [u32], base: usize, marks: usize, at: Reached, close
             index: at.index as u32,
             outer: named.outer,
         };
-        return Bracket::Differs(mismatch, inner);
+        return Err(Differs {
+            mismatch,
+            remaining: inner,
+        });
     }
     let from = innermost + 1;
     children::give_children(work, opener, base + from, at.write - from);
     slots::set_close(work, opener, closer);
-    Bracket::On(Reached {
+    Ok(Reached {
         write: from,
         depth: inner,
         index: at.index,
@@ -164,7 +171,13 @@ fn close_section(work: &mut [u32], base: usize, marks: usize, at: Reached, close
 
 // One token: an opener opens a section, a closer closes the innermost one if one is open, anything else is written.
 // How many brackets are open after it is in what comes back, for a closer that differs too.
-fn look(work: &mut [u32], base: usize, marks: usize, at: Reached, item: u32) -> Bracket
+fn look(
+    work: &mut [u32],
+    base: usize,
+    marks: usize,
+    at: Reached,
+    item: u32,
+) -> Result<Reached, Differs>
     requires { LookAt work.old base marks at.write at.depth item × (at.write + 1 < 2 ^ 32) × (at.index + 2 < 2 ^ 32) }
     ensures looked { Looked work.old base marks at.write at.depth at.index item result work.new }
     ensures result_value { open_in result ≡ open_after at.depth (op_at work.old item) }
@@ -179,16 +192,14 @@ fn look(work: &mut [u32], base: usize, marks: usize, at: Reached, item: u32) -> 
     };
     let operator = slots::operator_bits_of(work, item);
     if is_opener(operator) {
-        return Bracket::On(open_section(work, base, marks, here, item));
+        return Ok(open_section(work, base, marks, here, item));
     }
-    if is_closer(operator) {
-        if depth != 0 {
-            return close_section(work, base, marks, here, item);
-        }
+    if is_closer(operator) && depth != 0 {
+        return close_section(work, base, marks, here, item);
     }
     work[base + write] = item;
     let written = write + 1;
-    Bracket::On(Reached {
+    Ok(Reached {
         write: written,
         depth,
         index,
@@ -197,9 +208,9 @@ fn look(work: &mut [u32], base: usize, marks: usize, at: Reached, item: u32) -> 
 
 // The section pass: a walk over the n tokens from base on, and in it over the open sections. From a token outside on, where
 // it opens a section, the tokens up to its closer are looked at. The first bracket that does not match ends both walks.
-// It is the definition's bracket step, and of a childless list nothing is lost in it.
+// How many items it leaves. It is the definition's bracket step, and of a childless list nothing is lost in it.
 // `grouping::group` calls it with what the member pass leaves.
-pub fn sections(work: &mut [u32], base: usize, n: usize) -> Flat
+pub fn sections(work: &mut [u32], base: usize, n: usize) -> Result<usize, Fault>
     requires { CanSection work.old base n }
     ensures sectioned { Sectioned work.old base n result work.new }
     ensures loses_nothing { LosesNothing work.old base n result work.new }
@@ -211,26 +222,27 @@ pub fn sections(work: &mut [u32], base: usize, n: usize) -> Flat
         depth: 0,
         index: 0,
     };
+    // Document 01 names this form, so it is no `for` with `?`: the walk over tokens and open sections is nested, and left by its label at
+    // the first bracket that does not match (docs/DECISIONS.md, Forms).
     'tokens: loop {
         if n <= read {
-            break 'tokens Flat::Done(at.write);
+            break 'tokens Ok(at.write);
         }
         'open: loop {
             let item = work[base + read];
             read += 1;
-            let looked = look(work, base, marks, at, item);
-            match looked {
-                Bracket::On(after) => {
+            match look(work, base, marks, at, item) {
+                Ok(after) => {
                     at = after;
                     if at.depth == 0 {
                         break 'open;
                     }
                     if n <= read {
-                        break 'tokens Flat::Unclosed(still_open(work, base, marks, at.depth));
+                        break 'tokens Err(Fault::Unclosed(still_open(work, base, marks, at.depth)));
                     }
                 }
-                Bracket::Differs(mismatch, _) => {
-                    break 'tokens Flat::Mismatched(mismatch);
+                Err(differs) => {
+                    break 'tokens Err(Fault::from(differs));
                 }
             }
         }

@@ -1,20 +1,19 @@
 -- What the arm of a `match` on an enum says where it stands for several variants.
 use Prim.Native.Nat.{ℕ, ◌/◌, ◌^◌, ◌≤◌, ◌<◌}
 use mathlib.Core.{Path.{◌≡◌, refl, ap, ◌∙◌}, Bool.{Bool, true, false, ◌&&◌, and-false}, List.{[], ◌∷◌}}
-use denote.Enum.Declared
-use types.Run.{OneOf, miss}
 use native.Mathlib.Omega.{arith}
 use lib.Dec.{eqb, leb, ltb}
 use borrow.Author.Tests.{eq-eqb, eqb-true, le-leb, lt-leb, lt-ltb, le-ltb}
 use Rattle.molang.{specs.Operator.{is_operator}, specs.FirstFailure.{must, first_of}}
 use Rattle.molang.specs.Words.{kind_of, low_of, operator_field, count_field, field_kind, low_fault, word_fault}
 use Rattle.molang.{proofs.Booleans.{either}, proofs.FirstFailure.{must-true, after_none}}
-use Rattle.words.{proofs.CheckLaws.{operator-tests}, specs.Fields.{operator_of, variant_of}, specs.declared.checks.Word.{Word}}
-use Rattle.words.{specs.declared.checks.Word.TheVariants.{Good, WrongKind, HighOperator, HighVariant, OtherBit}, specs.Checks.{number_of}}
-use Rattle.words.specs.contracts.checks.Word as word
+use Rattle.words.{proofs.CheckLaws.{operator-tests}, specs.Fields.{operator_of, variant_of}, specs.Checks.{number_of}}
+use Rattle.words.specs.declared.refusals.Reason.{Reason}
+use Rattle.std.specs.Prelude.{⊤, Result, Ok, Err, is_ok}
 use Rattle.shape.specs.{declared.Field.{Field}, declared.Field.TheVariants.{Operator, Start, End, Upper, Lower, Count, Close}}
-use Rattle.shape.specs.Answers.{is_legal}
-use Rattle.shape.specs.contracts.Field as field
+use Rattle.std.specs.Prelude.{Option as Found, Some, None}
+use Rattle.molang.specs.Words.{with_number}
+use Rattle.shape.specs.Answers.{is_legal, place_of, refusal_of}
 
 legal-must : (b : Bool) (n : ℕ) → is_legal (must b n) ≡ b
 unfolding must
@@ -68,18 +67,14 @@ module _ (w : ℕ) where
       let room : low_of w < 65536 = omega arith in
       legal-operator ∙ rw (eq-eqb _ 1 kind, lt-ltb _ 65536 room, le-leb (variant_of w) 12 h) refl
 
-pub bad-word : (w : Word) → OneOf (1 ∷ 2 ∷ 3 ∷ 4 ∷ []) (Declared.tag_of word.the_type w) → false ≡ is_legal (number_of w)
-bad-word Good h = absurd (miss (1 ∷ 2 ∷ 3 ∷ 4 ∷ []) 0 tt h)
-bad-word WrongKind h = refl
-bad-word HighOperator h = refl
-bad-word HighVariant h = refl
-bad-word OtherBit h = refl
+-- A word's check is legal where it is no error.
+pub legal-good : (x : Result ⊤ Reason) → is_ok x ≡ is_legal (number_of x)
+legal-good (Ok _) = refl
+legal-good (Err r) = refl
 
--- What holds of every field but the operator, and of every field but the count.
-pub not-operator : (P : Field → Type 0) → P Start → P End → P Upper → P Lower → P Count → P Close → (s : Field)
-    → OneOf (1 ∷ 2 ∷ 3 ∷ 4 ∷ 5 ∷ 6 ∷ []) (Declared.tag_of field.the_type s)
-    → P s
-not-operator P b c d e n g Operator h = absurd (miss (1 ∷ 2 ∷ 3 ∷ 4 ∷ 5 ∷ 6 ∷ []) 0 tt h)
+-- What holds of every field but the operator, and of every field but the operator and the count.
+pub not-operator : (P : Field → Type 0) → P Start → P End → P Upper → P Lower → P Count → P Close → (s : Field) → (s ≡ Operator → ⊥) → P s
+not-operator P b c d e n g Operator h = absurd (h refl)
 not-operator P b c d e n g Start h = b
 not-operator P b c d e n g End h = c
 not-operator P b c d e n g Upper h = d
@@ -87,13 +82,16 @@ not-operator P b c d e n g Lower h = e
 not-operator P b c d e n g Count h = n
 not-operator P b c d e n g Close h = g
 
-pub not-count : (P : Field → Type 0) → P Operator → P Start → P End → P Upper → P Lower → P Close → (s : Field)
-    → OneOf (0 ∷ 1 ∷ 2 ∷ 3 ∷ 4 ∷ 6 ∷ []) (Declared.tag_of field.the_type s)
-    → P s
-not-count P a b c d e g Operator h = a
-not-count P a b c d e g Start h = b
-not-count P a b c d e g End h = c
-not-count P a b c d e g Upper h = d
-not-count P a b c d e g Lower h = e
-not-count P a b c d e g Count h = absurd (miss (0 ∷ 1 ∷ 2 ∷ 3 ∷ 4 ∷ 6 ∷ []) 5 tt h)
-not-count P a b c d e g Close h = g
+pub neither : (P : Field → Type 0) → P Start → P End → P Upper → P Lower → P Close → (s : Field) → (s ≡ Operator → ⊥) → (s ≡ Count → ⊥) → P s
+neither P b c d e g Count h m = absurd (m refl)
+neither P b c d e g Operator h m = absurd (h refl)
+neither P b c d e g Start h m = b
+neither P b c d e g End h m = c
+neither P b c d e g Upper h m = d
+neither P b c d e g Lower h m = e
+neither P b c d e g Close h m = g
+
+-- A fault under the number 12.
+pub numbered-12 : (fault : Found ℕ) → with_number 12 (place_of fault) ≡ refusal_of fault
+numbered-12 None = refl
+numbered-12 (Some place) = refl

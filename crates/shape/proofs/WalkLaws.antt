@@ -1,109 +1,113 @@
--- The loops over words that look for the first fault, of answers 12 and 24 alike: what the tests of a word come to, and the fault of all
--- words by where a loop stands. The walks are molang's (NodeWalk).
+-- The loops over words that look for the first fault, in every order: what the tests of a word come to, and the fault of all words by where a
+-- loop stands.
 use Prim.Native.Nat.{ℕ, suc, ◌+◌, ◌≤◌, ◌<◌}
-use mathlib.Core.{Path.{◌≡◌, refl, sym, ◌∙◌}, Bool.{Bool, true, false, ◌&&◌, true≢false}, List.{List, [], ◌∷◌}, Option.{Option, none, some}}
+use mathlib.Core.{Path.{◌≡◌, refl, sym, ◌∙◌}, Bool.{Bool, true, false, true≢false}, List.{List, [], ◌∷◌}, Option.{Option, none, some}}
 use native.Mathlib.{Numerals.{add-one}, Omega.{arith}}
-use lib.{Dec.{leb}, ListN.{length, get_or, drop, drop_of_length-le}, Seq.{drop-cons}}
-use borrow.Author.Tests.{leb-true, le-leb, lt-leb}
-use Rattle.molang.specs.Words.{Field, operator_field, start_field, end_field, upper_field, lower_field, count_field, close_field, word_fault}
-use Rattle.molang.specs.{Words.{low_fault, variant_after}, WriteEntry.{most_nodes, next_in_node}}
-use Rattle.molang.proofs.{FirstFailure.{must-true, must-false, found, after_none}, NodeWalk.{Walk, Fits, AllFit, after_all, tests}}
-use Rattle.shape.specs.{Answers.{is_legal}, Seen.{LegalNode}}
+use lib.{ListN.{length, get_or, drop, drop_of_length-le}, Seq.{drop-cons}}
+use Rattle.molang.specs.Words.{Field, operator_field, word_fault}
+use Rattle.molang.specs.{Words.{low_fault, variant_after}, WriteEntry.{next_in_node}}
+use Rattle.molang.specs.FirstFailure.{must}
+use Rattle.molang.proofs.FirstFailure.{must-true, must-false, found, after_none}
+use Rattle.shape.specs.{Answers.{is_legal}, Seen.{LegalNode}, Walks.{goes_on, IsWalk, NodeFits, IsAfterNode, Seen}}
 
--- The three tests of a word, one after the other.
-goes_by : (o : Option ℕ) (a b : Bool) → is_legal o ≡ true → a ≡ true → b ≡ elim o [ some n ↦ false | none ↦ a && b ]
-goes_by none a b h e = rw e refl
-goes_by (some n) a b h e = absurd (true≢false (sym h))
+-- The two tests of a word, one after the other.
+by-fit : (o : Option ℕ) (b : Bool) → is_legal o ≡ true → b ≡ elim o [ some n ↦ false | none ↦ b ]
+by-fit none b h = refl
+by-fit (some n) b h = absurd (true≢false (sym h))
 
-stopped_by : (o : Option ℕ) (b : Bool) → is_legal o ≡ false → false ≡ elim o [ some n ↦ false | none ↦ b ]
-stopped_by none b h = absurd (true≢false h)
-stopped_by (some n) b h = refl
+illegal : (o : Option ℕ) (b : Bool) → is_legal o ≡ false → false ≡ elim o [ some n ↦ false | none ↦ b ]
+illegal none b h = absurd (true≢false h)
+illegal (some n) b h = refl
 
-failed-by : (o : Option ℕ) (b : Bool) → b ≡ false → false ≡ elim o [ some n ↦ false | none ↦ b ]
-failed-by none b h = sym h
-failed-by (some n) b h = refl
+fitting : (o : Option ℕ) (b : Bool) → ◌≡◌ {A = Bool} (elim o [ some n ↦ false | none ↦ b ]) true → b ≡ true
+fitting none b h = h
+fitting (some n) b h = absurd (true≢false (sym h))
 
-module _ {S : Type 0} (W : Walk S) where
-  -- The word can stand next.
-  abbrev pub walks : Field → ℕ → S → ℕ → Bool
-  walks field v s w =
-      elim (word_fault field v w) [
-        | some n ↦ false
-        | none ↦ leb (W.asked field w s) (W.there field w s) && leb (W.nodes field w s) most_nodes
-      ]
+module _ {S : Type 0} (fits : Field → ℕ → S → Bool) (field : Field) (v : ℕ) (s : S) (w : ℕ) where
+  pub goes-by-fit : is_legal (word_fault field v w) ≡ true → fits field w s ≡ goes_on fits field v s w
+  goes-by-fit = by-fit (word_fault field v w) _
 
-  module _ (field : Field) (v : ℕ) (s : S) (w : ℕ) where
-    pub illegal-stops : is_legal (word_fault field v w) ≡ false → false ≡ walks field v s w
-    illegal-stops h = stopped_by (word_fault field v w) _ h
+  pub stops-illegal : is_legal (word_fault field v w) ≡ false → false ≡ goes_on fits field v s w
+  stops-illegal = illegal (word_fault field v w) _
 
-    pub short-stops : W.there field w s < W.asked field w s → false ≡ walks field v s w
-    short-stops h = failed-by (word_fault field v w) _ (rw (lt-leb _ _ h))
+  pub goes-fitting : goes_on fits field v s w ≡ true → fits field w s ≡ true
+  goes-fitting = fitting (word_fault field v w) _
 
-    pub walks-if : is_legal (word_fault field v w) ≡ true → W.asked field w s ≤ W.there field w s
-        → leb (W.nodes field w s) most_nodes ≡ walks field v s w
-    walks-if h a = goes_by (word_fault field v w) _ _ h (le-leb _ _ a)
-
-    pub walked : walks field v s w ≡ true → Fits W field w s
-    walked e = let t = tests (word_fault field v w) _ _ e in (leb-true _ _ t.1, leb-true _ _ t.2)
-
+module _ {S : Type 0} {start : S} {after : Field → ℕ → S → S} {fits : Field → ℕ → S → Bool} {whole : Field → S → Bool}
+    {fault : ℕ → Field → ℕ → S → List ℕ → Option ℕ} {Holds : Field → S → Type 0} (walk : IsWalk start after fits whole fault Holds) where
   -- The fault of the words from i on is that of all.
-  module _ (ws : List ℕ) (field : Field) (v i : ℕ) (s : S) {all : Option ℕ} (same : W.fault i field v s (drop i ws) ≡ all) where
-    at-word : i < length ws → W.fault i field v s (get_or ws i 0 ∷ drop (suc i) ws) ≡ all
+  module _ (ws : List ℕ) (field : Field) (v i : ℕ) (s : S) {all : Option ℕ} (same : fault i field v s (drop i ws) ≡ all) where
+    at-word : i < length ws → fault i field v s (get_or ws i 0 ∷ drop (suc i) ws) ≡ all
     at-word h = rw (drop-cons ws i 0 h) at same
 
-    pub fault-here : i < length ws → walks field v s (get_or ws i 0) ≡ false → some i ≡ all
-    fault-here h e = sym (W.at-word i field v s (get_or ws i 0) (drop (suc i) ws) ∙ found _ i _ (must-false _ i e)) ∙ at-word h
+    fault-here : i < length ws → goes_on fits field v s (get_or ws i 0) ≡ false → some i ≡ all
+    fault-here h e = sym (walk.at_word i field v s (get_or ws i 0) (drop (suc i) ws) ∙ found _ i _ (must-false _ i e)) ∙ at-word h
 
-    pub fault-later : i < length ws → walks field v s (get_or ws i 0) ≡ true
-        → W.fault (suc i) (next_in_node field) (variant_after field v (get_or ws i 0)) (W.after field (get_or ws i 0) s) (drop (suc i) ws)
-        ≡ all
-    fault-later h e = sym (W.at-word i field v s (get_or ws i 0) (drop (suc i) ws) ∙ after_none _ _ (must-true _ i e)) ∙ at-word h
+    -- After a word that can stand next.
+    fault-later : (j : ℕ) → j ≡ i + 1 → i < length ws → goes_on fits field v s (get_or ws i 0) ≡ true
+        → fault j (next_in_node field) (variant_after field v (get_or ws i 0)) (after field (get_or ws i 0) s) (drop j ws) ≡ all
+    fault-later j ej h e =
+        rw (ej, add-one) (sym (walk.at_word i field v s (get_or ws i 0) (drop (suc i) ws) ∙ after_none _ _ (must-true _ i e)) ∙ at-word h)
 
     -- At the words' end.
-    pub fault-end : length ws ≤ i → W.whole field s ≡ false → some i ≡ all
-    fault-end h e = sym (W.at-end i field v s ∙ must-false _ i e) ∙ (rw (drop_of_length-le ws h) at same)
-
-    pub fault-none : length ws ≤ i → W.whole field s ≡ true → none ≡ all
-    fault-none h e = sym (W.at-end i field v s ∙ must-true _ i e) ∙ (rw (drop_of_length-le ws h) at same)
-
-    -- After a legal word that fits.
-    fault-legal : (j : ℕ) → j ≡ i + 1 → i < length ws → is_legal (word_fault field v (get_or ws i 0)) ≡ true
-        → Fits W field (get_or ws i 0) s
-        → W.fault j (next_in_node field) (variant_after field v (get_or ws i 0)) (W.after field (get_or ws i 0) s) (drop j ws) ≡ all
-    fault-legal j e h l f =
-        rw (e, add-one) (fault-later h (sym (walks-if field v s (get_or ws i 0) l f.0) ∙ le-leb _ _ f.1))
+    fault-end : length ws ≤ i → must (whole field s) i ≡ all
+    fault-end h = sym (walk.at_end i field v s) ∙ (rw (drop_of_length-le ws h) at same)
 
   -- Where a node begins, the variant of the node before it does not matter.
-  any-variant : (i u v : ℕ) (s : S) (ws : List ℕ) → W.fault i operator_field u s ws ≡ W.fault i operator_field v s ws
+  any-variant : (i u v : ℕ) (s : S) (ws : List ℕ) → fault i operator_field u s ws ≡ fault i operator_field v s ws
   unfolding word_fault low_fault variant_after
-  any-variant i u v s [] = W.at-end i operator_field u s ∙ sym (W.at-end i operator_field v s)
-  any-variant i u v s (w ∷ ws) = W.at-word i operator_field u s w ws ∙ sym (W.at-word i operator_field v s w ws)
+  any-variant i u v s [] = walk.at_end i operator_field u s ∙ sym (walk.at_end i operator_field v s)
+  any-variant i u v s (w ∷ ws) = walk.at_word i operator_field u s w ws ∙ sym (walk.at_word i operator_field v s w ws)
 
-  -- The words of the node at an index.
-  abbrev pub seven : List ℕ → ℕ → List ℕ
-  seven ws at =
-      get_or ws at 0
-      ∷ get_or ws (at + 1) 0
-      ∷ get_or ws (at + 2) 0
-      ∷ get_or ws (at + 3) 0
-      ∷ get_or ws (at + 4) 0
-      ∷ get_or ws (at + 5) 0
-      ∷ get_or ws (at + 6) 0
-      ∷ []
+  -- ---- What a loop has seen
+
+  pub seen-start : (words : List ℕ) → Seen Holds fault start words operator_field 0 start 0
+  seen-start words = record { within = omega arith; holds = walk.starts; same = refl }
+
+  module _ {words : List ℕ} {field : Field} {v i : ℕ} {s : S} (seen : Seen Holds fault start words field v s i) where
+    pub stops : i < length words → goes_on fits field v s (get_or words i 0) ≡ false → some i ≡ fault 0 operator_field 0 start words
+    stops h e = fault-here words field v i s seen.same h e
+
+    pub ends-whole : i ≡ length words → whole field s ≡ true → none ≡ fault 0 operator_field 0 start words
+    ends-whole h e = sym (must-true _ i e) ∙ fault-end words field v i s seen.same (omega (arith, h))
+
+    pub ends-short : i ≡ length words → whole field s ≡ false → some (length words) ≡ fault 0 operator_field 0 start words
+    ends-short h e = rw (← h) (sym (must-false _ i e) ∙ fault-end words field v i s seen.same (omega (arith, h)))
+
+    -- After a word that can stand next.
+    pub seen-more : (j : ℕ) → j ≡ i + 1 → i < length words → goes_on fits field v s (get_or words i 0) ≡ true
+        → {field' : Field} {v' : ℕ} {s' : S} → field' ≡ next_in_node field → v' ≡ variant_after field v (get_or words i 0)
+        → s' ≡ after field (get_or words i 0) s
+        → Seen Holds fault start words field' v' s' j
+    seen-more j ej h e ef ev es =
+        record {
+          within = omega (arith, ej);
+          holds = rw (ef, es) (walk.kept field (get_or words i 0) s seen.holds (goes-fitting fits field v s (get_or words i 0) e));
+          same = rw (ef, ev, es) (fault-later words field v i s seen.same j ej h e);
+        }
+
+    seen-legal : (j : ℕ) → j ≡ i + 1 → i < length words → is_legal (word_fault field v (get_or words i 0)) ≡ true
+        → fits field (get_or words i 0) s ≡ true
+        → {s' : S} → s' ≡ after field (get_or words i 0) s
+        → Seen Holds fault start words (next_in_node field) (variant_after field v (get_or words i 0)) s' j
+    seen-legal j ej h l f es =
+        seen-more j ej h (sym (goes-by-fit fits field v s (get_or words i 0) l) ∙ f) refl refl es
 
   -- After a legal node whose words fit.
-  pub fault-node : (ws : List ℕ) (at : ℕ) (s : S) {all : Option ℕ} → W.fault at operator_field 0 s (drop at ws) ≡ all
-      → at + 7 ≤ length ws
-      → LegalNode ws at
-      → AllFit W operator_field (seven ws at) s
-      → W.fault (at + 7) operator_field 0 (after_all W operator_field (seven ws at) s) (drop (at + 7) ws) ≡ all
+  pub seen-node : {words : List ℕ} {at : ℕ} {s : S} → Seen Holds fault start words operator_field 0 s at → at + 7 ≤ length words
+      → LegalNode words at
+      → NodeFits after fits (get_or words (at + 5) 0) s
+      → {s' : S} → IsAfterNode after (get_or words (at + 5) 0) s s'
+      → Seen Holds fault start words operator_field 0 s' (at + 7)
   unfolding word_fault low_fault next_in_node variant_after
-  fault-node ws at s same h legal (fa, (fb, (fc, (fd, (fe, (fn, (fg, z))))))) =
-      let a = fault-legal ws operator_field _ at _ same (at + 1) refl (omega arith) legal.operator fa in
-      let b = fault-legal ws start_field _ (at + 1) _ a (at + 2) (omega arith) (omega arith) legal.start fb in
-      let c = fault-legal ws end_field _ (at + 2) _ b (at + 3) (omega arith) (omega arith) legal.end fc in
-      let d = fault-legal ws upper_field _ (at + 3) _ c (at + 4) (omega arith) (omega arith) legal.upper fd in
-      let e = fault-legal ws lower_field _ (at + 4) _ d (at + 5) (omega arith) (omega arith) legal.lower fe in
-      let n = fault-legal ws count_field _ (at + 5) _ e (at + 6) (omega arith) (omega arith) legal.count fn in
-      any-variant (at + 7) 0 _ _ _
-      ∙ fault-legal ws close_field _ (at + 6) _ n (at + 7) (omega arith) (omega arith) legal.close fg
+  seen-node {words = ws} {at = at} {s = s} seen h legal node_fits {s' = s'} is =
+      let w : ℕ → ℕ = λ k. get_or ws (at + k) 0 in
+      let (fa, (fb, (fc, (fd, (fe, (fn, (fg, z))))))) = node_fits (get_or ws at 0) (w 1) (w 2) (w 3) (w 4) (w 6) in
+      let a = seen-legal seen (at + 1) (omega arith) (omega arith) legal.operator fa refl in
+      let b = seen-legal a (at + 2) (omega arith) (omega arith) legal.start fb refl in
+      let c = seen-legal b (at + 3) (omega arith) (omega arith) legal.end fc refl in
+      let d = seen-legal c (at + 4) (omega arith) (omega arith) legal.upper fd refl in
+      let e = seen-legal d (at + 5) (omega arith) (omega arith) legal.lower fe refl in
+      let n = seen-legal e (at + 6) (omega arith) (omega arith) legal.count fn refl in
+      let g = seen-legal n (at + 7) (omega arith) (omega arith) legal.close fg (is (get_or ws at 0) (w 1) (w 2) (w 3) (w 4) (w 6)) in
+      record { within = h; holds = g.holds; same = any-variant (at + 7) 0 _ _ _ ∙ g.same }

@@ -1,12 +1,10 @@
--- What each case of the crate's enums says: the definition's field for a field, answer 12 with its place for a fault.
-use Rattle.std.specs.Prelude.{ℕ, Bool, true, false, List}
+-- What each case says: the definition's field for a field, answer 12 with its place for a fault.
+use Rattle.std.specs.Prelude.{ℕ, Bool, true, false, List, Option as Found, Some, None}
 use Rattle.std.proofs.Math.Option.{Option, none, some}
 use Rattle.molang.specs.Words as words
 use Rattle.molang.specs.WriteEntry.{Shape, tree_fault}
 use Rattle.shape.specs.declared.Field.{Field}
 use Rattle.shape.specs.declared.Field.TheVariants.{Operator, Start, End, Upper, Lower, Count, Close}
-use Rattle.shape.specs.declared.Fault.{Fault}
-use Rattle.shape.specs.declared.Fault.TheVariants.{Nowhere, At}
 
 -- The definition's field.
 abbrev pub field_of : Field → words.Field
@@ -22,10 +20,15 @@ field_of Close = words.close_field
 abbrev pub shape : ℕ → ℕ → Shape
 shape called begun = record { called = called; begun = begun }
 
--- What each case of `Fault` says: answer 12 with its place, or nothing.
-abbrev pub refusal_of : Fault → Option words.Refusal
-refusal_of Nowhere = none
-refusal_of (At place) = some (words.row 12 place)
+-- The place of a fault.
+abbrev pub place_of : Found ℕ → Option ℕ
+place_of None = none
+place_of (Some place) = some place
+
+-- What the place of a fault says: answer 12 with it, or nothing.
+abbrev pub refusal_of : Found ℕ → Option words.Refusal
+refusal_of None = none
+refusal_of (Some place) = some (words.row 12 place)
 
 -- Answer 12 to tree words, if they are not one tree.
 abbrev pub tree_refusal : List ℕ → Option words.Refusal

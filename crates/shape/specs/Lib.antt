@@ -2,3 +2,6 @@
 pub mod Answers
 pub mod Shaped
 pub mod Seen
+pub mod Walks
+pub mod Trees
+pub mod TreeLaws

@@ -1,10 +1,12 @@
--- The letters of an alphabet: what its tests say of the letter at an index, and the tests from a letter on, as the code's loops go.
+-- The letters of an alphabet: what its tests say of the letter at an index, and the tests as the code makes them.
 -- Assumes nothing.
-use Prim.Native.Nat.{ℕ, zero, suc, ◌+◌, ◌≤◌, ◌<◌}
+use Prim.Native.Nat.{ℕ, zero, suc, ◌+◌, ◌-◌, ◌≤◌, ◌<◌}
 use mathlib.Core.{Path.{◌≡◌, refl, ap, sym, ◌∙◌}, Bool.{Bool, true, false, not, ◌||◌, true≢false, false≢true}, List.{List, [], ◌∷◌}}
-use native.Mathlib.{Numerals.{add-one}, Omega.{arith}}
-use lib.{Dec.{eqb, leb}, ListN.{length, get_or, drop, drop_of_length-le}, Seq.{drop-cons}}
-use borrow.Author.Tests.{leb-true, eqb-true, eq-eqb, ne_eqb, not-true}
+use native.Mathlib.Omega.{arith}
+use lib.{Dec.{eqb, leb}, ListN.{length, get_or, take, drop}}
+use borrow.Author.Tests.{leb-true, eqb-true, eq-eqb, not-true}
+use Rattle.std.specs.List.{list_any, list_all}
+use Rattle.std.proofs.lemmas.{List.{drop_more, drop_all, take_rest}, Bool.Decides.{nat_tests}}
 use Rattle.molang.{specs.Operator.{is_operator}, proofs.Booleans.{or-first, or-second}, proofs.Trees.{both}}
 use Rattle.shortlists.specs.ShortLists.{among, different, each_legal, is_alphabet}
 
@@ -79,41 +81,37 @@ legal-at [] legal i h = absurd (omega arith)
 legal-at (a ∷ letters) legal zero h = (both (is_operator a) _ legal).0
 legal-at (a ∷ letters) legal (suc i) h = legal-at letters (both (is_operator a) _ legal).1 i (omega arith)
 
--- ---- The loops: from a letter on
+-- ---- What the code's tests say
 
+-- The library's `contains` and `all` are the definition's tests.
+among-any : (a : ℕ) (letters : List ℕ) → list_any (λ (b : ℕ). eqb b a) letters ≡ among a letters
+unfolding among
+among-any a [] = refl
+among-any a (b ∷ letters) = rw (among-any a letters, same-either-way a b) refl
+  where
+    same-either-way : (a b : ℕ) → eqb b a ≡ eqb a b
+    same-either-way a b = grind (arith, nat_tests)
+
+pub legal-all : (letters : List ℕ) → list_all is_operator letters ≡ each_legal letters
+unfolding each_legal
+legal-all [] = refl
+legal-all (a ∷ letters) = rw (legal-all letters) refl
+
+-- What `contains` says of a letter and those behind it.
+pub among-told : (letters : List ℕ) (i : ℕ) (r : Bool)
+    → r ≡ list_any (λ (b : ℕ). eqb b (get_or letters i 0)) (take (length letters - (i + 1)) (drop (i + 1) letters))
+    → r ≡ among (get_or letters i 0) (drop (i + 1) letters)
+among-told letters i r told = (rw (take_rest letters (i + 1)) at told) ∙ among-any (get_or letters i 0) (drop (i + 1) letters)
+
+-- From a letter on: it occurs again, or what is left decides.
 module _ (letters : List ℕ) (i : ℕ) (h : i < length letters) where
-  next : drop i letters ≡ get_or letters i 0 ∷ drop (i + 1) letters
-  next = rw (add-one, drop-cons letters i 0) refl
-
-  -- A letter that is looked for stands here, or it is looked for in what is left.
-  pub among-here : (a : ℕ) → a ≡ get_or letters i 0 → among a (drop i letters) ≡ true
-  among-here a e = unfold among in rw (next, eq-eqb a (get_or letters i 0) e) refl
-
-  pub among_later : (a : ℕ) → (a ≡ get_or letters i 0 → ⊥) → among a (drop i letters) ≡ among a (drop (i + 1) letters)
-  among_later a other = unfold among in rw (next, ne_eqb a (get_or letters i 0) other) refl
-
-  -- The letter here occurs again, or what is left decides.
   pub different-here : among (get_or letters i 0) (drop (i + 1) letters) ≡ true → different (drop i letters) ≡ false
-  different-here e = unfold different in rw (next, e) refl
+  different-here e = unfold different in rw (drop_more letters i 0 h, e) refl
 
   pub different-later : among (get_or letters i 0) (drop (i + 1) letters) ≡ false
       → different (drop i letters) ≡ different (drop (i + 1) letters)
-  different-later e = unfold different in rw (next, e) refl
-
-  -- The letter here is illegal, or what is left decides.
-  pub legal-here : is_operator (get_or letters i 0) ≡ false → each_legal (drop i letters) ≡ false
-  legal-here e = unfold each_legal in rw (next, e) refl
-
-  pub legal-later : is_operator (get_or letters i 0) ≡ true → each_legal (drop i letters) ≡ each_legal (drop (i + 1) letters)
-  legal-later e = unfold each_legal in rw (next, e) refl
+  different-later e = unfold different in rw (drop_more letters i 0 h, e) refl
 
 -- No letter is left.
-module _ (letters : List ℕ) (i : ℕ) (h : length letters ≤ i) where
-  pub among_none : (a : ℕ) → among a (drop i letters) ≡ false
-  among_none a = unfold among in rw (drop_of_length-le letters h) refl
-
-  pub different-none : different (drop i letters) ≡ true
-  different-none = unfold different in rw (drop_of_length-le letters h) refl
-
-  pub legal-none : each_legal (drop i letters) ≡ true
-  legal-none = unfold each_legal in rw (drop_of_length-le letters h) refl
+pub different-none : (letters : List ℕ) (i : ℕ) → length letters ≤ i → different (drop i letters) ≡ true
+different-none letters i h = unfold different in rw (drop_all i letters h) refl

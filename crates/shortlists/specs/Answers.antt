@@ -1,13 +1,12 @@
 -- What each case of the answers of `count` and `list_at` says, what is told of a call, and the words that the list is given back in.
-use Rattle.std.specs.Prelude.{ℕ, List, [], length, replicate}
+use Rattle.std.specs.Prelude.{ℕ, List, [], length, replicate, Result, Ok, Err}
 use Rattle.std.proofs.Math.Option.{Option, none, some}
 use Rattle.molang.specs.Forest.{Token}
 use Rattle.molang.specs.Words.{Refusal, list_words}
 use Rattle.molang.specs.Parse.{in_front}
-use Rattle.shortlists.specs.declared.Counted.{Counted}
-use Rattle.shortlists.specs.declared.Counted.TheVariants.{Lists, Refused as Counted-as-Refused}
-use Rattle.shortlists.specs.declared.Listed.{Listed}
-use Rattle.shortlists.specs.declared.Listed.TheVariants.{Tokens, Refused as Listed-as-Refused}
+use Rattle.words.specs.declared.refusals.Reason.{Reason}
+use Rattle.words.specs.Refusals.{reason_number}
+use Rattle.shortlists.specs.declared.Short.{Short}
 use Rattle.shortlists.specs.ShortLists.{up_to, count_refusal, list_refusal, list_at}
 
 -- What is told: a number, of lists or of tokens, or a refusal's number; its place is 0.
@@ -21,14 +20,19 @@ told none n = found n
 told (some r) n = refused r.number
 
 -- The answer of `count`.
-abbrev pub counted_of : Counted → Told
-counted_of (Lists n) = found n
-counted_of (Counted-as-Refused number) = refused number
+abbrev pub counted_of : Result ℕ Reason → Told
+counted_of (Ok n) = found n
+counted_of (Err reason) = refused (reason_number reason)
 
 -- The answer of `list_at`.
-abbrev pub listed_of : Listed → Told
-listed_of (Tokens n) = found n
-listed_of (Listed-as-Refused number) = refused number
+abbrev pub listed_of : Result Short Reason → Told
+listed_of (Ok short) = found short.tokens
+listed_of (Err reason) = refused (reason_number reason)
+
+-- The words that it gives: a refusal has none.
+abbrev pub short_words : Result Short Reason → List ℕ
+short_words (Ok short) = short.words
+short_words (Err reason) = replicate 30 0
 
 -- HOW MANY LISTS there are.
 unfoldable pub count_told : List ℕ → ℕ → Told

@@ -1,16 +1,15 @@
 // The list at a position: first how many letters it has, then which they are, digit by digit from the left. Leans on words; specs/Digits
 // says what is asked and found.
-ghost use Rattle.std.specs.Prelude.{◌≡◌, true, [], ◌∷◌, ◌/◌, ◌%◌, ◌<◌, length, replicate};
+ghost use Rattle.std.specs.Prelude.{◌≡◌, true, [], ◌∷◌, ◌<◌, length, replicate};
 ghost use Rattle.molang.specs.Lines.{tokens_from};
 ghost use Rattle.molang.specs.Operator.{is_operator};
 ghost use Rattle.molang.specs.Parse.{in_front};
 ghost use Rattle.molang.specs.Words.{list_words};
 ghost use Rattle.words.specs.Tokens.{five_words};
-ghost use Rattle.shortlists.specs.Answers.{listed_of, found};
 ghost use Rattle.shortlists.specs.Digits.{CanFind, Found, CanList};
 ghost use Rattle.shortlists.specs.ShortLists.{list_at};
 
-use crate::{Listed, Short};
+use crate::Short;
 use words::fields;
 use words::tokens::TokenWords;
 
@@ -30,30 +29,13 @@ fn find_length(letters: u64, position: u64) -> Standing
     let mut length = 0usize;
     let mut size = 1u64;
     let mut left = position;
+    // How many turns there are is what is looked for, so no range counts them.
     while size <= left {
         left -= size;
         size *= letters;
         length += 1;
     }
     Standing { length, size, left }
-}
-
-// A number of several digits: the first, and the number that the others are.
-#[derive(Clone, Copy)]
-struct Split {
-    first: u64,
-    rest: u64,
-}
-
-// Takes the first digit off a number; the others can be `size` numbers.
-fn take_digit(left: u64, size: u64) -> Split
-    requires { 0 < size }
-    ensures { (result.first ≡ left / size) × (result.rest ≡ left % size) }
-{
-    Split {
-        first: left / size,
-        rest: left % size,
-    }
 }
 
 // The words of the i-th letter's token: its span is i to i + 1, and its payload is 0. The caller takes the letter from an alphabet.
@@ -73,7 +55,7 @@ fn token_of(letter: u32, i: u32) -> TokenWords
 // The list at a position. `list_at` has seen that there is one.
 pub fn list_of(alphabet: &[u32], position: u64) -> Short
     requires { CanList alphabet.now position }
-    ensures listed_value { listed_of result.listed ≡ found (length (list_at alphabet.now 6 position)) }
+    ensures tokens_value { result.tokens ≡ length (list_at alphabet.now 6 position) }
     ensures words_value { result.words ≡ in_front (list_words (list_at alphabet.now 6 position)) (replicate 30 0) }
 {
     let letters = alphabet.len() as u64;
@@ -82,17 +64,14 @@ pub fn list_of(alphabet: &[u32], position: u64) -> Short
     let mut size = standing.size;
     let mut left = standing.left;
     let mut words = [0u32; 30];
-    let mut i = 0usize;
-    while i < length {
+    for i in 0..length {
         size /= letters;
-        let digit = take_digit(left, size);
-        let at = digit.first as usize;
-        left = digit.rest;
-        token_of(alphabet[at], i as u32).lay(&mut words, i * fields::TOKEN_WORDS);
-        i += 1;
+        let digit = (left / size) as usize;
+        left %= size;
+        token_of(alphabet[digit], i as u32).lay(&mut words, i * fields::TOKEN_WORDS);
     }
     Short {
-        listed: Listed::Tokens(length),
+        tokens: length,
         words,
     }
 }

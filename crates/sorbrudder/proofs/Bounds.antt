@@ -1,7 +1,7 @@
 -- The values of every answer fit its number's fields: counts and places stay below 2 ^ 32, refusals' numbers below 2 ^ 8. The places of
 -- answers 12 and 24 are at most 86,016; answer 13's is a node of the tree. Assumes nothing.
 use mathlib.Core.{Path.{◌≡◌, refl, ap}, Bool.{Bool, true, false}, List.{[], ◌∷◌}, Option.{Option, none, some}}
-use Prim.Native.Nat.{ℕ, suc, ◌+◌, ◌*◌, ◌≤◌, ◌<◌}
+use Prim.Native.Nat.{ℕ, suc, ◌+◌, ◌*◌, ◌^◌, ◌≤◌, ◌<◌}
 use native.Mathlib.Omega.{arith}
 use lib.{Dec.{leb}, ListN.{length}}
 use borrow.Author.Tests.{leb-true}
@@ -9,13 +9,24 @@ use Rattle.molang.specs.{Forest.{Token, Forest, nil, node, size}, Words.{Refusal
 use Rattle.molang.specs.{FirstFailure.{must, first_of}, Parse.{Call, most_tokens, refusal, reading, told, answered}}
 use Rattle.molang.specs.{Rules.{RuleCall, rule_refusal, rule_answered}, Plain.{plain_form, seat_of, unplain, unplain_at}, Write.{written_tree}}
 use Rattle.molang.specs.WriteEntry.{tree_fault, trees_of, WriteCall, forest_refusal, write_refusal, written_tokens, write_told, write_answered}
+use Rattle.molang.specs.WriteEntry.{WriteTold, tokens, unwritten}
 use Rattle.molang.specs.StackOrder.{ReorderCall, stack_fault, output_refusal, export_refusal, import_refusal, reorder_told, export_answered}
-use Rattle.molang.specs.StackOrder.{import_answered}
+use Rattle.molang.specs.StackOrder.{import_answered, ReorderTold, reordered, not_reordered}
 use Rattle.molang.proofs.{Accepted.{call-accepted, rule-accepted}, Bounds.{read-tree, read-messages}, FirstFailure.{All, last_one}}
 use Rattle.molang.proofs.{Refusals.{Within, refusal-within, rule-refusal-within}, TreeWords.{tree-fault-none, tree-place}}
 use Rattle.molang.proofs.{StackWords.{stack-fault-none, stack-place}, StackOrder.{trees-of-tree, tree-few, stack-few}}
 use Rattle.molang.specs.Read as read
-use Rattle.sorbrudder.specs.Numbers.{FitsTold, FitsWritten, FitsReordered}
+use Rattle.sorbrudder.specs.Numbers.{FitsTold}
+
+-- The values of the write entry's answer fit the fields.
+abbrev pub FitsWritten : WriteTold → Type 0
+FitsWritten (tokens count) = count < 2 ^ 32
+FitsWritten (unwritten number place) = (number < 2 ^ 8) × (place < 2 ^ 32)
+
+-- The same of the answer of export and import.
+abbrev pub FitsReordered : ReorderTold → Type 0
+FitsReordered (reordered nodes) = nodes < 2 ^ 32
+FitsReordered (not_reordered number place) = (number < 2 ^ 8) × (place < 2 ^ 32)
 
 -- ---- Answer 13
 

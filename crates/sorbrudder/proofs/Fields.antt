@@ -6,8 +6,8 @@ use Rattle.molang.specs.{Parse.{Call, Told, a_tree, some_messages, refused, answ
 use Rattle.molang.specs.WriteEntry.{WriteCall, WriteTold, tokens, unwritten, write_answered}
 use Rattle.molang.specs.StackOrder.{ReorderCall, ReorderTold, reordered, not_reordered, export_answered, import_answered}
 use Rattle.sorbrudder.specs.Numbers.{packed, kind_in, number_in, low_in, told_number, told_back, write_number, write_back, FitsTold}
-use Rattle.sorbrudder.specs.Numbers.{FitsWritten, reorder_number, reorder_back, FitsReordered}
-use Rattle.sorbrudder.proofs.Bounds.{told-fits, ruled-fits, written-fits, exported-fits, imported-fits}
+use Rattle.sorbrudder.specs.Numbers.{reorder_number, reorder_back}
+use Rattle.sorbrudder.proofs.Bounds.{FitsWritten, FitsReordered, told-fits, ruled-fits, written-fits, exported-fits, imported-fits}
 
 module _ (kind number low : ℕ) (n : number < 2 ^ 8) (l : low < 2 ^ 32) where
   pub kind-in : kind_in (packed kind number low) ≡ kind

@@ -4,6 +4,8 @@ use Prim.Native.Nat.{ℕ, ◌^◌, ◌<◌}
 use mathlib.Core.{Path.{◌≡◌, refl, ap, sym, ◌∙◌}, Bool.{Bool, true, false}, List.{List}, Option.{Option, none, some}}
 use native.Mathlib.Omega.{arith}
 use lib.{Dec.{ltb}, IntN.{ℤ}}
+use Rattle.std.specs.Prelude.{Result}
+use Rattle.words.specs.declared.refusals.Refusal as code
 use Rattle.molang.specs.{FirstFailure.{must}, Words.{Refusal, row}, Parse.{Told, refusal}}
 use Rattle.molang.proofs.{FirstFailure.{first-none, last_one, all_first, all-last, all-must}, Refusals.{Within}}
 use Rattle.parse.specs.{declared.Answer.{Answer}, Answers.{told_of}}
@@ -60,7 +62,7 @@ unfolding outcome open_held
 open-held none t held before = refl
 open-held (some r) t held before = refl
 
-pub opened-to : {slice list : List ℕ} {l : Lent} {version : ℤ} {r : Change} {slice' tree' messages' work' : List ℕ}
+pub opened-to : {slice list : List ℕ} {l : Lent} {version : ℤ} {r : Result Change code.Refusal} {slice' tree' messages' work' : List ℕ}
     → HasOpened slice list l version r slice' tree' messages' work'
     → {number : ℕ} → number ≡ told_number (told_by (outcome_of r))
     → {before after : Held} → after ≡ held_by (outcome_of r) before
@@ -84,7 +86,7 @@ committed-version s seen e l = by (commit_refusal s seen e l)
     by none = unfold with_edit in refl
     by (some r) = refl
 
-pub committed-to : {s : State} {seen : ℕ} {e : Edit} {l : Lent} {r : Change} {slice' tree' messages' work' : List ℕ}
+pub committed-to : {s : State} {seen : ℕ} {e : Edit} {l : Lent} {r : Result Change code.Refusal} {slice' tree' messages' work' : List ℕ}
     → HasCommitted s seen e l r slice' tree' messages' work'
     → {number : ℕ} → number ≡ told_number (told_by (outcome_of r))
     → {tokens edits : ℕ} {version : ℤ} → held_of tokens version edits ≡ held_by (outcome_of r) s.held
@@ -102,7 +104,7 @@ committed-to {s} {seen} {e} {l} {slice' = slice'} h told {tokens} {edits} held =
     }
 
 -- An ask looks at no edit count.
-pub asked-to : (tokens : ℕ) (version : ℤ) (words : List ℕ) (e : Edit) (l : Lent) {r : Answer} {tree' messages' work' : List ℕ}
+pub asked-to : (tokens : ℕ) (version : ℤ) (words : List ℕ) (e : Edit) (l : Lent) {r : Result Answer code.Refusal} {tree' messages' work' : List ℕ}
     → HasAsked (state (held_of tokens version 0) words) e l r tree' messages' work'
     → {number : ℕ} → number ≡ told_number (told_of r)
     → (edits : ℕ) → HasAskedTo (state (held_of tokens version edits) words) e l number tree' messages' work'

@@ -4,3 +4,4 @@ pub mod HoldingLaws
 pub mod Fields
 pub mod Exporting
 pub mod LiftingLaws
+pub mod Counts

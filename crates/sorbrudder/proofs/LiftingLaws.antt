@@ -13,8 +13,8 @@ use Rattle.lift.specs.Lifting.{after_first, by_room, lift_left}
 use Rattle.lift.specs.Entry.{LotTold, unchanged, rewritten, with_messages, turned_back, left_behind, left_unwritten, lot_of, or_turned}
 use Rattle.lift.specs.Entry.{entry_refusal, entry_told, lot_lift, HasEntered}
 use Rattle.lift.proofs.EntryLaws.{turned_row, turned-within, or_last, last_row, room-free}
-use Rattle.sorbrudder.specs.{Numbers.{FitsTold, FitsWritten}, Lifting.{lot_number, lot_back, FitsLot, HasLiftedTo}}
-use Rattle.sorbrudder.proofs.{Bounds.{told-fits, written-fits}, Fields.{kind-in, number-in, low-in}}
+use Rattle.sorbrudder.specs.{Numbers.{FitsTold}, Lifting.{lot_number, lot_back, FitsLot, HasLiftedTo}}
+use Rattle.sorbrudder.proofs.{Bounds.{FitsWritten, told-fits, written-fits}, Fields.{kind-in, number-in, low-in}}
 
 -- ---- Bounds
 

@@ -1,10 +1,12 @@
 -- The entries' answers as one number, as the exports give them: bits 0-31 a count or a refusal's place, bits 32-39 a refusal's number, else
 -- 0, bits 40-47 the kind of the answer: 0 a tree, tokens or nodes in the other order, 1 messages, 2 a refusal. And the way back; and the
 -- promises of the exported readers.
-use Rattle.std.specs.Prelude.{ℕ, zero, suc, ◌+◌, ◌*◌, ◌/◌, ◌%◌, ◌^◌, ◌<◌, ◌≡◌, List}
+use Rattle.std.specs.Prelude.{ℕ, zero, suc, ◌+◌, ◌*◌, ◌/◌, ◌%◌, ◌^◌, ◌<◌, ◌≡◌, List, Result, Ok, Err}
 use Rattle.molang.specs.Parse.{Call, Told, a_tree, some_messages, refused, answered, tree_after, messages_after, work_after}
 use Rattle.molang.specs.Rules.{RuleCall, rule_answered, ruled_tree_after, ruled_messages_after, ruled_work_after, rules_after}
 use Rattle.molang.specs.WriteEntry.{WriteTold, tokens, unwritten}
+use Rattle.words.specs.Refusals.{reason_number}
+use Rattle.words.specs.declared.refusals.Refusal as code
 use Rattle.molang.specs.StackOrder.{ReorderTold, reordered, not_reordered}
 
 -- A number by its three fields.
@@ -67,21 +69,21 @@ reorder_of_kind (suc k) number low = not_reordered number low
 abbrev pub reorder_back : ℕ → ReorderTold
 reorder_back n = reorder_of_kind (kind_in n) (number_in n) (low_in n)
 
+-- A COUNT OR A REFUSAL, as the writer, export and import give it, as a number.
+abbrev pub count_number : Result ℕ code.Refusal → ℕ
+count_number (Ok count) = packed 0 0 count
+count_number (Err r) = packed 2 (reason_number r.reason) r.place
+
+-- Its values fit the fields.
+abbrev pub FitsCount : Result ℕ code.Refusal → Type 0
+FitsCount (Ok count) = count < 2 ^ 32
+FitsCount (Err r) = (reason_number r.reason < 2 ^ 8) × (r.place < 2 ^ 32)
+
 -- An answer whose values fit the fields.
 abbrev pub FitsTold : Told → Type 0
 FitsTold (a_tree nodes) = nodes < 2 ^ 32
 FitsTold (some_messages records) = records < 2 ^ 32
 FitsTold (refused number place) = (number < 2 ^ 8) × (place < 2 ^ 32)
-
--- The same of the write entry's answer.
-abbrev pub FitsWritten : WriteTold → Type 0
-FitsWritten (tokens count) = count < 2 ^ 32
-FitsWritten (unwritten number place) = (number < 2 ^ 8) × (place < 2 ^ 32)
-
--- The same of the answer of export and import.
-abbrev pub FitsReordered : ReorderTold → Type 0
-FitsReordered (reordered nodes) = nodes < 2 ^ 32
-FitsReordered (not_reordered number place) = (number < 2 ^ 8) × (place < 2 ^ 32)
 
 -- THE EXPORTED READER'S PROMISE: the answer's number, and what each lent buffer holds after the call.
 pub record HasParsedTo (c : Call) (number : ℕ) (tree' messages' work' : List ℕ) : Type 0 where

@@ -6,39 +6,39 @@ ghost use Rattle.held.specs.Runs.{told_by, held_by};
 ghost use Rattle.sorbrudder.specs.Numbers.{told_number, FitsTold};
 ghost use Rattle.sorbrudder.specs.Holding.{held_of, HasOpenedTo, HasAskedTo, HasCommittedTo, HasAdoptedTo};
 
-use crate::{MESSAGES, parsed_number, refusal};
-use held::{Adopted, Change, Held, adopt_version, ask_edit, commit_edit, open_list};
+use crate::{parsed_number, refusal};
+use held::{Change, Held, adopt_version, ask_edit, commit_edit, open_list};
+use words::refusals::Refusal;
 
-// Puts the held numbers where they are lent.
+// Puts the held numbers where they are lent. The C interface lends them one by one, so that here and below a `Held` is copied number by
+// number.
 fn put_held(held: Held, tokens: &mut usize, version: &mut i16, edits: &mut u32)
     ensures { held_of tokens.new version.new edits.new ≡ held }
 {
-    let count = held.tokens;
-    let rules = held.version;
-    let number = held.edits;
-    *tokens = count;
-    *version = rules;
-    *edits = number;
+    *tokens = held.tokens;
+    *version = held.version;
+    *edits = held.edits;
 }
 
 // What an opening or a commit comes to as one number; the held numbers are put only where it is not turned back. Every answer of both
 // fits (proofs/HoldingLaws).
-fn changed(change: Change, tokens: &mut usize, version: &mut i16, edits: &mut u32) -> u64
+fn changed(
+    change: Result<Change, Refusal>,
+    tokens: &mut usize,
+    version: &mut i16,
+    edits: &mut u32,
+) -> u64
     requires { FitsTold (told_by (outcome_of change)) }
     ensures value { result ≡ told_number (told_by (outcome_of change)) }
     ensures edits_after { held_of tokens.new version.new edits.new
         ≡ held_by (outcome_of change) (held_of tokens.old version.old edits.old) }
 {
     match change {
-        Change::Refused(number, place) => refusal(number, place),
-        Change::Tree(nodes, held) => {
-            put_held(held, tokens, version, edits);
-            nodes as u64
+        Ok(made) => {
+            put_held(made.held, tokens, version, edits);
+            parsed_number(Ok(made.answer))
         }
-        Change::Messages(records, held) => {
-            put_held(held, tokens, version, edits);
-            MESSAGES + (records as u64)
-        }
+        Err(unchanged) => refusal(unchanged),
     }
 }
 
@@ -118,12 +118,10 @@ pub extern "C" fn sorbrudder_commit(
         result (state (held_of tokens.new version edits.new) words.new)
         tree.new messages.new work.new }
 {
-    let count = *tokens;
-    let number = *edits;
     let held = Held {
-        tokens: count,
+        tokens: *tokens,
         version,
-        edits: number,
+        edits: *edits,
     };
     let change = commit_edit(
         held, seen, words, place, removed, put, tree, messages, work, limit,
@@ -139,22 +137,18 @@ pub extern "C" fn sorbrudder_adopt(version: &mut i16, edits: &mut u32, to: i16) 
         (held_of tokens version.old edits.old) to
         result (held_of tokens version.new edits.new) }
 {
-    let rules = *version;
-    let number = *edits;
     let held = Held {
         tokens: 0,
-        version: rules,
-        edits: number,
+        version: *version,
+        edits: *edits,
     };
     let adopted = adopt_version(held, to);
     match adopted {
-        Adopted::Refused(answer) => refusal(answer, 0),
-        Adopted::Changed(next) => {
-            let next_rules = next.version;
-            let next_number = next.edits;
-            *version = next_rules;
-            *edits = next_number;
+        Ok(next) => {
+            *version = next.version;
+            *edits = next.edits;
             0
         }
+        Err(last) => refusal(last),
     }
 }

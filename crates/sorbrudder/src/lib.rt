@@ -9,15 +9,17 @@ mod ruled;
 ghost use Rattle.std.specs.Prelude.{◌≡◌, ◌<◌, ◌^◌};
 ghost use Rattle.molang.specs.WriteEntry.{write_answered, list_after};
 ghost use Rattle.molang.specs.StackOrder.{export_answered, exported_after, import_answered, imported_after};
+ghost use Rattle.words.specs.Refusals.{reason_number};
 ghost use Rattle.parse.specs.Answers.{told_of, call as parse_call};
-ghost use Rattle.write.specs.Answers.{told_of as written_told, call};
-ghost use Rattle.stackorder.specs.Answers.{told_of as reordered_told, call as reorder_call};
-ghost use Rattle.sorbrudder.specs.Numbers.{packed, told_number, write_number, reorder_number, FitsTold, FitsWritten};
-ghost use Rattle.sorbrudder.specs.Numbers.{FitsReordered, HasParsedTo};
+ghost use Rattle.write.specs.Answers.{call};
+ghost use Rattle.stackorder.specs.Answers.{call as reorder_call};
+ghost use Rattle.sorbrudder.specs.Numbers.{packed, told_number, write_number, reorder_number, count_number, FitsTold, FitsCount};
+ghost use Rattle.sorbrudder.specs.Numbers.{HasParsedTo};
 
 use parse::{Answer, parse};
-use stackorder::{Reordered, export, import};
-use write::{Written, write};
+use stackorder::{export, import};
+use words::refusals::Refusal;
+use write::write;
 
 // The kinds of an answer, in bits 40-47.
 const MESSAGES: u64 = 0x100_0000_0000;
@@ -27,23 +29,43 @@ const REFUSED: u64 = 0x200_0000_0000;
 // A refusal's number stands from bit 32 on.
 const NUMBER: u64 = 0x1_0000_0000;
 
-// A refusal as one number. The callers have the bounds of an answer, which are shown in proofs/Bounds, here and below.
-fn refusal(number: u32, place: usize) -> u64
-    requires { (number < 2 ^ 8) × (place < 2 ^ 32) }
-    ensures { result ≡ packed 2 number place }
+// A refusal's number and place as one number, before its kind is added. The callers have the bounds of an answer, which are shown in
+// proofs/Bounds, here and below.
+fn reason(refused: Refusal) -> u64
+    requires { (reason_number refused.reason < 2 ^ 8) × (refused.place < 2 ^ 32) }
+    ensures { result ≡ packed 0 (reason_number refused.reason) refused.place }
 {
-    REFUSED + (number as u64) * NUMBER + (place as u64)
+    u64::from(u32::from(refused.reason)) * NUMBER + (refused.place as u64)
 }
 
-// The parse entry's answer as one number.
-fn parsed_number(answer: Answer) -> u64
+// A refusal as one number.
+fn refusal(refused: Refusal) -> u64
+    requires { (reason_number refused.reason < 2 ^ 8) × (refused.place < 2 ^ 32) }
+    ensures { result ≡ packed 2 (reason_number refused.reason) refused.place }
+{
+    REFUSED + reason(refused)
+}
+
+// The answer of a reader as one number.
+fn parsed_number(answer: Result<Answer, Refusal>) -> u64
     requires { FitsTold (told_of answer) }
     ensures { result ≡ told_number (told_of answer) }
 {
     match answer {
-        Answer::Tree(nodes) => nodes as u64,
-        Answer::Messages(records) => MESSAGES + (records as u64),
-        Answer::Refused(number, place) => refusal(number, place),
+        Ok(Answer::Tree(nodes)) => nodes as u64,
+        Ok(Answer::Messages(records)) => MESSAGES + (records as u64),
+        Err(unread) => refusal(unread),
+    }
+}
+
+// The answer of the writer, of export and of import as one number.
+fn counted_number(counted: Result<usize, Refusal>) -> u64
+    requires { FitsCount counted }
+    ensures { result ≡ count_number counted }
+{
+    match counted {
+        Ok(count) => count as u64,
+        Err(refused) => refusal(refused),
     }
 }
 
@@ -79,17 +101,6 @@ pub extern "C" fn sorbrudder_parse(
     parsed_number(answer)
 }
 
-// The write entry's answer as one number.
-fn written_number(written: Written) -> u64
-    requires { FitsWritten (written_told written) }
-    ensures { result ≡ write_number (written_told written) }
-{
-    match written {
-        Written::Tokens(count) => count as u64,
-        Written::Refused(number, place) => refusal(number, place),
-    }
-}
-
 // Writes a plain tree: `write`, with its answer as one number.
 #[unsafe(no_mangle)]
 pub extern "C" fn sorbrudder_write(tree: &[u32], list: &mut [u32]) -> u64
@@ -97,18 +108,7 @@ pub extern "C" fn sorbrudder_write(tree: &[u32], list: &mut [u32]) -> u64
     ensures list_after { list.new ≡ list_after (call tree.now list.old) }
 {
     let written = write(tree, list);
-    written_number(written)
-}
-
-// The answer of export and import as one number.
-fn reordered_number(reordered: Reordered) -> u64
-    requires { FitsReordered (reordered_told reordered) }
-    ensures { result ≡ reorder_number (reordered_told reordered) }
-{
-    match reordered {
-        Reordered::Nodes(count) => count as u64,
-        Reordered::Refused(number, place) => refusal(number, place),
-    }
+    counted_number(written)
 }
 
 // Puts a tree into stack order: `export`, with its answer as one number.
@@ -118,7 +118,7 @@ pub extern "C" fn sorbrudder_export(tree: &[u32], output: &mut [u32]) -> u64
     ensures output_after { output.new ≡ exported_after (reorder_call tree.now output.old) }
 {
     let exported = export(tree, output);
-    reordered_number(exported)
+    counted_number(exported)
 }
 
 // Takes a tree from stack order: `import`, with its answer as one number.
@@ -128,5 +128,5 @@ pub extern "C" fn sorbrudder_import(words: &[u32], output: &mut [u32]) -> u64
     ensures output_after { output.new ≡ imported_after (reorder_call words.now output.old) }
 {
     let imported = import(words, output);
-    reordered_number(imported)
+    counted_number(imported)
 }

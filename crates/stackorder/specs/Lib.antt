@@ -2,4 +2,4 @@
 pub mod Faults
 pub mod Reorder
 pub mod Answers
-pub mod Filled
+pub mod FaultLaws

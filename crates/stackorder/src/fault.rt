@@ -1,148 +1,109 @@
-// Answer 24: the words are exactly one tree of at most 12,288 nodes in stack order, or the first word that cannot continue one is
-// found. Node by node for as long as each node continues the tree, then word by word, which finds the place; with the trees that the
-// words so far have done and the nodes that have begun. Leans on shape (what answer 12 asks of a word and of a node) and words.
-ghost use Rattle.std.specs.Prelude.{◌≡◌, true, ℕ, suc, ◌+◌, ◌≤◌, length};
-ghost use Rattle.molang.specs.Words.{operator_field};
+// Answer 24's walk, over a tree's words in stack order: the trees that they have done and the nodes that have begun. Leans on shape's walk
+// and words.
+ghost use Rattle.std.specs.Prelude.{◌≡◌, ◌≤◌};
+ghost use Rattle.molang.specs.Words.{operator_field, count_field};
 ghost use Rattle.molang.specs.WriteEntry.{most_nodes};
-ghost use Rattle.molang.specs.StackOrder.{stack_after, trees_asked, least_nodes, stack_continues, is_one_stack, stack_fault};
-ghost use Rattle.shape.specs.Answers.{field_of};
-ghost use Rattle.words.specs.Tokens.{node_length};
-ghost use Rattle.stackorder.specs.Faults.{place_of, stack, Stacked, NextStacked};
+ghost use Rattle.molang.specs.StackOrder.{least_nodes, stack_fault};
+ghost use Rattle.shape.specs.Answers.{place_of};
+ghost use Rattle.stackorder.specs.Faults.{stack, order_start, order_after, order_fits, order_whole, order_faults, OrderHolds};
+ghost use Rattle.stackorder.specs.FaultLaws.{order_walks};
 
-use shape::{Fault, Field, MOST_NODES, begun_after, is_legal, is_node, next, variant_after};
+use shape::walk::{self, Walk};
+use shape::{Field, MOST_NODES};
 use words::fields;
 
-// The whole nodes before `at`: how many trees they have done, and how many nodes have begun.
+// How many trees the words so far have done, and how many nodes have begun.
 #[derive(Clone, Copy)]
-struct Nodes {
+pub struct StackOrder {
     done: u32,
     begun: u32,
-    at: usize,
 }
 
-// How many trees a word asks for: a count for the node's children.
-fn trees_asked(field: Field, w: u32) -> u32
-    ensures { result ≡ trees_asked (field_of field) w }
+// How many nodes one tree of the words has at least after a count: one more where it leaves several trees.
+fn least_nodes(done: u32, begun: u32) -> u32
+    requires { begun ≤ most_nodes }
+    ensures { result ≡ least_nodes count_field (stack done begun) }
 {
-    match field {
-        Field::Count => fields::low(w),
-        _ => 0,
-    }
+    if done <= 1 { begun } else { begun + 1 }
 }
 
-// How many trees are done, after a word: a count makes one of those that it asks for.
-fn done_after(field: Field, done: u32, w: u32) -> u32
-    requires { (done ≤ most_nodes) × (trees_asked (field_of field) w ≤ done) }
-    ensures { (begun : ℕ) → result ≡ (stack_after (field_of field) w (stack done begun)).done }
-{
-    match field {
-        Field::Count => done - fields::low(w) + 1,
-        _ => done,
-    }
-}
+impl Walk for StackOrder {
+    ghost start = { order_start };
 
-// How many nodes one tree of the words has at least, after a word: one more where a count leaves several trees.
-fn least_nodes(field: Field, done: u32, begun: u32) -> u32
-    requires { begun ≤ suc most_nodes }
-    ensures { result ≡ least_nodes (field_of field) (stack done begun) }
-{
-    if done <= 1 {
-        return begun;
-    }
-    match field {
-        Field::Count => begun + 1,
-        _ => begun,
-    }
-}
+    ghost after = { order_after };
 
-// Whether the word can stand next: it is legal, as many trees are done as it asks for, and a tree of the words fits.
-fn continues(field: Field, variant: u32, done: u32, begun: u32, w: u32) -> bool
-    requires { (done ≤ begun) × (begun ≤ most_nodes) }
-    ensures { result ≡ stack_continues (field_of field) variant (stack done begun) w }
-{
-    if !is_legal(field, variant, w) {
-        return false;
-    }
-    if done < trees_asked(field, w) {
-        return false;
-    }
-    least_nodes(field, done_after(field, done, w), begun_after(field, begun)) <= MOST_NODES
-}
+    ghost fits = { order_fits };
 
-// Whether the words may end here: a node has just ended, and one tree is done.
-fn is_one(field: Field, done: u32) -> bool
-    ensures { (begun : ℕ) → result ≡ is_one_stack (field_of field) (stack done begun) }
-{
-    match field {
-        Field::Operator => done == 1,
-        _ => false,
-    }
-}
+    ghost whole = { order_whole };
 
-// Whether a whole node stands next: its words are legal, and as many trees are done as its count asks for. It is to leave room for
-// one node more, which joins the trees where several are left; so a 12,288th node is judged word by word.
-fn node_continues(words: &[u32], at: usize, done: u32, begun: u32) -> bool
-    requires { at + node_length ≤ length words.now }
-    ensures { result ≡ true → NextStacked words.now done begun at }
-{
-    if MOST_NODES - 2 < begun {
-        return false;
-    }
-    if !is_node(words, at) {
-        return false;
-    }
-    fields::low(words[at + fields::COUNT_FIELD]) <= done
-}
+    ghost fault = { order_faults };
 
-// The loop over the whole nodes at the front, up to the first that does not continue the tree. A node's words are read in a row,
-// without a test of which word is expected next.
-fn whole_nodes(words: &[u32]) -> Nodes
-    ensures { Stacked words.now operator_field 0 result.done result.begun result.at }
-{
-    let mut done = 0u32;
-    let mut begun = 0u32;
-    let mut at = 0usize;
-    while fields::NODE_WORDS <= words.len() - at {
-        if !node_continues(words, at, done, begun) {
-            return Nodes { done, begun, at };
+    ghost Holds = { OrderHolds };
+
+    ghost walks = { order_walks };
+
+    // No tree is done.
+    fn start() -> Self {
+        Self { done: 0, begun: 0 }
+    }
+
+    // An operator begins a node, a count makes one tree of those that it asks for.
+    fn after(self, field: Field, w: u32) -> Self {
+        match field {
+            Field::Operator => Self {
+                done: self.done,
+                begun: self.begun + 1,
+            },
+            Field::Count => Self {
+                done: self.done - fields::low(w) + 1,
+                begun: self.begun,
+            },
+            _ => self,
         }
-        done = done - fields::low(words[at + fields::COUNT_FIELD]) + 1;
-        begun += 1;
-        at += fields::NODE_WORDS;
     }
-    Nodes { done, begun, at }
+
+    // As many trees are done as a count asks for, and a tree of the words has no more nodes than a tree may have.
+    fn fits(self, field: Field, w: u32) -> bool {
+        match field {
+            Field::Operator => self.begun < MOST_NODES,
+            Field::Count => {
+                let asked = fields::low(w);
+                if self.done < asked {
+                    return false;
+                }
+                least_nodes(self.done - asked + 1, self.begun) <= MOST_NODES
+            }
+            _ => true,
+        }
+    }
+
+    // A node has just ended, and one tree is done.
+    fn is_whole(self, field: Field) -> bool {
+        match field {
+            Field::Operator => self.done == 1,
+            _ => false,
+        }
+    }
+
+    // It is to leave room for one node more, which joins the trees where several are left; so a 12,288th node is judged word by word.
+    fn fits_node(self, count: u32) -> bool {
+        if MOST_NODES - 2 < self.begun {
+            return false;
+        }
+        fields::low(count) <= self.done
+    }
+
+    fn after_node(self, count: u32) -> Self {
+        Self {
+            done: self.done - fields::low(count) + 1,
+            begun: self.begun + 1,
+        }
+    }
 }
 
-// The loop over the words after them: the first that cannot continue a tree, or the end where they run out.
-fn fault_after(words: &[u32], nodes: Nodes) -> Fault
-    requires { Stacked words.now operator_field 0 nodes.done nodes.begun nodes.at }
+// The first word that cannot continue one tree in stack order, or the number of words where they run out; none where they are one tree.
+pub fn stack_fault(words: &[u32]) -> Option<usize>
     ensures { place_of result ≡ stack_fault 0 operator_field 0 (stack 0 0) words.now }
 {
-    let mut field = Field::Operator;
-    let mut variant = 0u32;
-    let mut done = nodes.done;
-    let mut begun = nodes.begun;
-    let mut i = nodes.at;
-    while i < words.len() {
-        let w = words[i];
-        if !continues(field, variant, done, begun, w) {
-            return Fault::At(i);
-        }
-        variant = variant_after(field, variant, w);
-        done = done_after(field, done, w);
-        begun = begun_after(field, begun);
-        field = next(field);
-        i += 1;
-    }
-    if is_one(field, done) {
-        return Fault::Nowhere;
-    }
-    Fault::At(i)
-}
-
-// The words are one tree in stack order, or the first word that cannot continue one.
-pub fn stack_fault(words: &[u32]) -> Fault
-    ensures { place_of result ≡ stack_fault 0 operator_field 0 (stack 0 0) words.now }
-{
-    fault_after(words, whole_nodes(words))
+    walk::first_fault::<StackOrder>(words)
 }

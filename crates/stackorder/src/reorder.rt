@@ -8,7 +8,6 @@ ghost use Rattle.stackorder.specs.Reorder.{other_way, first_end, next_end, EndsI
 ghost use Rattle.stackorder.specs.Reorder.{waiting, Turned, CanReorder, HasReordered};
 
 use words::fields;
-use words::tokens::TokenWords;
 
 // Forward makes stack order of preorder, from the left; backward makes preorder of stack order, from the right.
 #[derive(Clone, Copy)]
@@ -28,34 +27,36 @@ struct Cursor {
     left: u32,
 }
 
-// The opposite direction.
-fn turned(direction: Direction) -> Direction
-    ensures { result ≡ other_way direction }
-{
-    match direction {
-        Direction::Forward => Direction::Backward,
-        Direction::Backward => Direction::Forward,
+impl Direction {
+    // The opposite direction.
+    fn turned(self) -> Direction
+        ensures { result ≡ other_way self }
+    {
+        match self {
+            Direction::Forward => Direction::Backward,
+            Direction::Backward => Direction::Forward,
+        }
     }
-}
 
-// The end of the first node of so many words.
-fn first(direction: Direction, words: usize) -> usize
-    ensures { result ≡ first_end direction words }
-{
-    match direction {
-        Direction::Forward => fields::NODE_WORDS,
-        Direction::Backward => words,
+    // The end of the first node of so many words.
+    fn first(self, words: usize) -> usize
+        ensures { result ≡ first_end self words }
+    {
+        match self {
+            Direction::Forward => fields::NODE_WORDS,
+            Direction::Backward => words,
+        }
     }
-}
 
-// The end of the node after the one that ends at `to`.
-fn next(direction: Direction, to: usize) -> usize
-    requires { (node_length ≤ to) × (to < 2 ^ 32) }
-    ensures { result ≡ next_end direction to }
-{
-    match direction {
-        Direction::Forward => to + fields::NODE_WORDS,
-        Direction::Backward => to - fields::NODE_WORDS,
+    // The end of the node after the one that ends at `to`.
+    fn next(self, to: usize) -> usize
+        requires { (node_length ≤ to) × (to < 2 ^ 32) }
+        ensures { result ≡ next_end self to }
+    {
+        match self {
+            Direction::Forward => to + fields::NODE_WORDS,
+            Direction::Backward => to - fields::NODE_WORDS,
+        }
     }
 }
 
@@ -66,12 +67,7 @@ fn copy(words: &[u32], from: usize, output: &mut [u32], to: usize)
 {
     let source = from - fields::NODE_WORDS;
     let target = to - fields::NODE_WORDS;
-    let token = TokenWords::at(words, source);
-    let children = words[source + fields::COUNT_FIELD];
-    let close = words[source + fields::CLOSE_FIELD];
-    token.lay(output, target);
-    output[target + fields::COUNT_FIELD] = children;
-    output[target + fields::CLOSE_FIELD] = close;
+    output[target..to].copy_from_slice(&words[source..from]);
 }
 
 // No child is left: the innermost open node goes out, and the last one that waits is the innermost. It is read first: it may wait
@@ -82,14 +78,14 @@ fn leave(words: &[u32], output: &mut [u32], direction: Direction, cursor: Cursor
     ensures value { result ≡ on_leaving direction output.old cursor }
     ensures output_after { output.new ≡ copied words.now cursor.node cursor.written output.old }
 {
-    let top = next(direction, cursor.free);
+    let top = direction.next(cursor.free);
     let at = top - fields::NODE_WORDS;
     let node = fields::wide(output[at]);
     let left = output[at + 1];
     copy(words, cursor.node, output, cursor.written);
     Cursor {
         read: cursor.read,
-        written: next(direction, cursor.written),
+        written: direction.next(cursor.written),
         free: top,
         node,
         left,
@@ -105,8 +101,8 @@ fn pass(words: &[u32], output: &mut [u32], direction: Direction, cursor: Cursor)
 {
     copy(words, cursor.read, output, cursor.written);
     Cursor {
-        read: next(direction, cursor.read),
-        written: next(direction, cursor.written),
+        read: direction.next(cursor.read),
+        written: direction.next(cursor.written),
         free: cursor.free,
         node: cursor.node,
         left: cursor.left - 1,
@@ -130,9 +126,9 @@ fn enter(
     output[at] = cursor.node as u32;
     output[at + 1] = cursor.left - 1;
     Cursor {
-        read: next(direction, cursor.read),
+        read: direction.next(cursor.read),
         written: cursor.written,
-        free: next(turned(direction), cursor.free),
+        free: direction.turned().next(cursor.free),
         node: cursor.read,
         left: children,
     }
@@ -155,14 +151,15 @@ fn turn(words: &[u32], output: &mut [u32], direction: Direction, cursor: Cursor)
 }
 
 // The walk. It begins as if a node of one child, the root, were open; whatever stands for that node never goes out.
-// `fill` calls it where nothing turns the call back: the words are one tree, and the output has room for them.
+// Its turns are not counted by a `for`: one that enters a node writes none, and the end is where the last node is written. `export` and
+// `import` call it where nothing turns the call back: the words are one tree, and the output has room for them.
 pub fn reorder(words: &[u32], output: &mut [u32], direction: Direction)
     requires { CanReorder direction words.now output.old }
     ensures { HasReordered direction words.now output.old output.new }
 {
-    let start = first(direction, words.len());
-    let last = first(turned(direction), words.len());
-    let past = next(direction, last);
+    let start = direction.first(words.len());
+    let last = direction.turned().first(words.len());
+    let past = direction.next(last);
     let mut cursor = Cursor {
         read: start,
         written: start,

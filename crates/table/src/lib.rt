@@ -23,10 +23,7 @@ pub const MOST: u32 = 0xffff_ffff;
 pub fn at(numbers: &[u32], index: usize) -> u32
     ensures { result ≡ get_or numbers.now index 0 }
 {
-    if index < numbers.len() {
-        return numbers[index];
-    }
-    0u32
+    numbers.get(index).copied().unwrap_or(0)
 }
 
 // Whether a number is a mark below `last`.
@@ -40,14 +37,12 @@ fn is_mark(n: u32, last: u32) -> bool
 pub fn next_mark(numbers: &[u32], from: usize, last: u32) -> usize
     ensures { (result ≡ from + unmarked last (drop from numbers.now)) × (result ≤ max from (length numbers.now)) }
 {
-    let mut end = from;
-    while end < numbers.len() {
+    for end in from..numbers.len() {
         if is_mark(numbers[end], last) {
             return end;
         }
-        end += 1;
     }
-    end
+    numbers.len().max(from)
 }
 
 // A word of a token of payload 0. `word` and `node_word` give a field of a token.
@@ -145,10 +140,7 @@ fn word(marked: &[u32], i: usize) -> u32
 fn items(marked: &[u32]) -> usize
     ensures { result ≡ length marked.now - 1 }
 {
-    if marked.len() == 0 {
-        return 0;
-    }
-    marked.len() - 1
+    marked.len().saturating_sub(1)
 }
 
 // How many words a mark and its items stand for. Messages fill both records.
@@ -173,12 +165,11 @@ pub fn lay(words: &mut [u32], marked: &[u32]) -> usize
     ensures words_after { words.new ≡ first_words (length words.old) marked.now }
     ensures value { (result ≡ fitting (length words.old) (marked_count marked.now)) × (result ≤ length words.old) }
 {
-    let mut i = 0usize;
-    while i < words.len() {
+    for i in 0..words.len() {
         words[i] = word(marked, i);
-        i += 1;
     }
     let n = word_count(marked);
+    // 0, and no Option: a mark without words is 0 too, and the callers take that many words of the buffer in both cases.
     if words.len() < n {
         return 0;
     }
@@ -210,12 +201,10 @@ pub fn holds(buffer: &[u32], mark: u32, said: &[u32], rest: u32) -> bool
     ensures { result ≡ holds_from 0 said.now (said_count mark said.now) rest buffer.now }
 {
     let n = said_count(mark, said);
-    let mut i = 0usize;
-    while i < buffer.len() {
+    for i in 0..buffer.len() {
         if buffer[i] != said_word(said, n, rest, i) {
             return false;
         }
-        i += 1;
     }
     n <= buffer.len()
 }

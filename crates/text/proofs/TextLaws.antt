@@ -2,7 +2,8 @@
 use Prim.Native.Nat.{ℕ, zero, suc, ◌+◌, ◌-◌, ◌*◌, ◌/◌, ◌%◌, ◌^◌, ◌≤◌, ◌<◌}
 use mathlib.Core.{Path.{◌≡◌, refl, ap, sym, ◌∙◌}, Bool.{Bool, true, false}, List.{List, [], ◌∷◌, ◌++◌}}
 use native.Mathlib.{Nat.{pow-le-pow_right}, Omega.{arith, pow_step}}
-use lib.{Dec.{leb, ltb}, ListN.{length, take, drop, length-append}, Seq.{take_all, take_at}}
+use lib.{Dec.{leb, ltb}, ListN.{length, take, drop, length-append}, Seq.{take_at}}
+use borrow.Rule.Slice.PartMut.{put_mid}
 use borrow.Author.Tests.{lt-ltb, le-ltb, leb-true, leb-false}
 use Rattle.io.specs.Digits.{last_digits, hex_digit_ascii, IsDigitCount}
 use Rattle.molang.specs.Parse.{in_front}
@@ -20,10 +21,11 @@ wrote_then {a} {b} {c} {at} {m} {r} {s} {t} h p q =
       whole = q.whole ∙ (λ i. laid_at (p.ends i) t (p.whole i)) ∙ laid-laid at s t a h;
     }
 
--- All bytes of a text.
-pub wrote-all : {out₀ out : List ℕ} {at : ℕ} {bytes : List ℕ} {i : ℕ} → length bytes ≤ i → out ≡ laid_at at (take i bytes) out₀
-    → Wrote out₀ at bytes (at + length bytes) out
-wrote-all {out₀} {at = at} {bytes} {i} h e = record { ends = refl; whole = e ∙ ap (λ (l : List ℕ). laid_at at l out₀) (take_all i bytes h) }
+-- All bytes of a text, copied to where they go.
+pub wrote-copied : (out bytes : List ℕ) (at k : ℕ) (laid : List ℕ) → laid ≡ bytes → k ≡ length bytes
+    → Wrote out at bytes (at + length bytes) (put_mid at k out laid)
+unfolding laid_at in_front
+wrote-copied out bytes at k laid same size = record { ends = refl; whole = rw (same, size) refl }
 
 -- A text that was laid in front is what stands in front.
 pub wrote-front : {out₀ out : List ℕ} {text : List ℕ} {n : ℕ} → Wrote out₀ 0 text n out → take n out ≡ text

@@ -11,11 +11,7 @@ pub fn put_bytes(out: &mut [u8], at: usize, bytes: &[u8]) -> usize
     requires { at + length bytes.now ≤ length out.old }
     ensures { Wrote out.old at bytes.now result out.new }
 {
-    let mut i = 0usize;
-    while i < bytes.len() {
-        out[at + i] = bytes[i];
-        i += 1;
-    }
+    out[at..at + bytes.len()].copy_from_slice(bytes);
     at + bytes.len()
 }
 
@@ -35,6 +31,5 @@ pub fn put_number(out: &mut [u8], at: usize, n: usize, after: u8) -> usize
     ensures { Wrote out.old at (numbered n after) result out.new }
 {
     let end = put_decimal(out, at, n);
-    let last = [after];
-    put_bytes(out, end, &last)
+    put_bytes(out, end, &[after])
 }

@@ -72,17 +72,17 @@ not-turned bytes first whole some_bytes low tokens h =
 -- THE ANSWER
 module _ (bytes : ℕ) (words : List ℕ) where
   -- An input that the program turns back.
-  pub back-told : (number : ℕ) → some (row number 0) ≡ turned_back bytes (get_or words 0 0)
-      → refused number 0 ≡ told (fault_of bytes words) (answer_of bytes words)
-  back-told number h = unfold fault_of first_of told in rw (← h) refl
+  pub back-told : (number place : ℕ) → some (row number place) ≡ turned_back bytes (get_or words 0 0)
+      → refused number place ≡ told (fault_of bytes words) (answer_of bytes words)
+  back-told number place h = unfold fault_of first_of told in rw (← h) refl
 
-  pub back-tree : (number : ℕ) → some (row number 0) ≡ turned_back bytes (get_or words 0 0) → (tree : List ℕ)
+  pub back-tree : (number place : ℕ) → some (row number place) ≡ turned_back bytes (get_or words 0 0) → (tree : List ℕ)
       → tree ≡ tree_in (fault_of bytes words) (answer_of bytes words) tree
-  back-tree number h tree = unfold fault_of first_of tree_in in rw (← h) refl
+  back-tree number place h tree = unfold fault_of first_of tree_in in rw (← h) refl
 
-  pub back-messages : (number : ℕ) → some (row number 0) ≡ turned_back bytes (get_or words 0 0) → (messages : List ℕ)
+  pub back-messages : (number place : ℕ) → some (row number place) ≡ turned_back bytes (get_or words 0 0) → (messages : List ℕ)
       → messages ≡ messages_in (fault_of bytes words) (answer_of bytes words) messages
-  back-messages number h messages = unfold fault_of first_of messages_in in rw (← h) refl
+  back-messages number place h messages = unfold fault_of first_of messages_in in rw (← h) refl
 
   -- The list of one that it reads.
   same-list : (n : ℕ) → n ≡ list_length bytes → take (n + 1 - 1) (drop 1 words) ≡ list_of bytes words

@@ -1,14 +1,14 @@
 -- The program `treelist` (document 01, end of 'Lists and their trees'): what it prints for an input, by the count of its bytes and its
 -- front.
-use Rattle.std.specs.Prelude.{ℕ, ◌-◌, ◌/◌, ◌%◌, ◌^◌, ◌≤◌, ◌<◌, ◌≡◌, ◌&&◌, List, [], ◌∷◌, eqb, leb, ltb, take, drop, get_or, replicate}
+use Rattle.std.specs.Prelude.{ℕ, ◌-◌, ◌/◌, ◌%◌, ◌^◌, ◌≤◌, ◌<◌, ◌≡◌, ◌&&◌, List, [], ◌∷◌, eqb, leb, ltb, take, drop, get_or, replicate, Result, Ok, Err}
 use Rattle.std.proofs.Math.Option.{Option, none, some}
 use Rattle.molang.specs.FirstFailure.{must, first_of}
 use Rattle.molang.specs.Words.{Refusal, row, operator_field, words_refusal}
 use Rattle.molang.specs.Read.{Answer}
 use Rattle.molang.specs.Parse.{told, tree_in, messages_in}
 use Rattle.molang.specs.Lines.{version_of}
-use Rattle.treelist.specs.declared.asked.Request.{Request}
-use Rattle.treelist.specs.declared.asked.Request.TheVariants.{List as Request-as-List, Refused}
+use Rattle.words.specs.Refusals.{refusal_row}
+use Rattle.words.specs.declared.refusals.Refusal as code
 use Rattle.own.specs.Own.{reading_of}
 use Rattle.listing.specs.Lists.{words_in}
 use Rattle.listing.specs.Rows.{answer_text}
@@ -28,10 +28,10 @@ turned_back bytes first =
     ∷ must (leb (list_length bytes) 640) (row 2 0)
     ∷ [])
 
--- What each case of `Request` says.
-abbrev pub refusal_of : Request → Option Refusal
-refusal_of (Request-as-List n) = none
-refusal_of (Refused number) = some (row number 0)
+-- Where an input is turned back, by what `asked` answers.
+abbrev pub refusal_of : Result ℕ code.Refusal → Option Refusal
+refusal_of (Ok n) = none
+refusal_of (Err r) = some (refusal_row r)
 
 -- The list of an input whose front is these words.
 unfoldable pub list_of : ℕ → List ℕ → List ℕ
@@ -53,6 +53,6 @@ printed bytes front =
     answer_text (told fault answer) (tree_in fault answer (replicate 2688 0)) (messages_in fault answer (replicate 16 0))
 
 -- What a list that is asked for keeps to.
-abbrev pub Counted : Request → ℕ → ℕ → Type 0
-Counted (Request-as-List n) bytes first = (n ≡ list_length bytes) × (n ≤ 640) × (n % 5 ≡ 0) × (first < 2 ^ 16)
-Counted (Refused number) bytes first = Unit {0}
+abbrev pub Counted : Result ℕ code.Refusal → ℕ → ℕ → Type 0
+Counted (Ok n) bytes first = (n ≡ list_length bytes) × (n ≤ 640) × (n % 5 ≡ 0) × (first < 2 ^ 16)
+Counted (Err r) bytes first = Unit {0}

@@ -6,7 +6,7 @@
 
 mod asked;
 
-ghost use Rattle.std.specs.Prelude.{◌≡◌, ◌+◌, ◌^◌, ◌≤◌, ◌<◌, length};
+ghost use Rattle.std.specs.Prelude.{◌≡◌, length, IfSome};
 ghost use Rattle.io.specs.Counts.{IsPrefixLen};
 ghost use Rattle.text.specs.Text.{Wrote};
 ghost use Rattle.treelist.specs.Listing.{printed};
@@ -16,14 +16,11 @@ use crate::asked::answer;
 use listing::bytes::words_of;
 use listing::rows::put_answer;
 use std::io::Read;
-use streams::{End, fill};
+use streams::{TURNS, fill};
 use text::put_bytes;
 
 // The bytes of a version and 128 tokens.
 const FRONT: usize = 2564;
-
-// How often the rest of an input is read on. A proved loop has to end, and nothing says that an input does: no run uses this up.
-const TURNS: usize = 1_099_511_627_776;
 
 // The text that answers an input of so many bytes, whose front is given; how many bytes it has. `answer_input` lends both buffers.
 fn listing(front: &[u8], bytes: usize, out: &mut [u8]) -> usize
@@ -39,50 +36,32 @@ fn listing(front: &[u8], bytes: usize, out: &mut [u8]) -> usize
     put_answer(out, 0, answered, &tree, &messages)
 }
 
-// What came of the input behind its front: how many bytes, how many of them came last, and why they were no more.
+// What came of the input behind its front: how many bytes, and how many of them came last.
 #[derive(Clone, Copy)]
 struct Rest {
     bytes: usize,
     last: usize,
-    end: End,
 }
 
-// One chunk more. `count_rest` has room for its length.
-fn read_on<R: Read>(input: &mut R, rest: Rest, space: &mut [u8]) -> Rest
-    requires { (length space.old ≡ 65536) × (rest.bytes + 65536 < 2 ^ 64) }
-    ensures { (result.last ≤ length space.new) × (result.bytes ≡ rest.bytes + result.last) }
-{
-    let came = fill(input, space);
-    let last = came.bytes;
-    let end = came.end;
-    Rest {
-        bytes: rest.bytes + last,
-        last,
-        end,
-    }
-}
-
-// Reads on as long as chunks fill the space, which `go_on` lends.
-fn count_rest<R: Read>(input: &mut R, space: &mut [u8]) -> Rest
+// Reads on as long as chunks fill the space, which `go_on` lends; nothing if a read fails.
+fn count_rest<R: Read>(input: &mut R, space: &mut [u8]) -> Option<Rest>
     requires { length space.old ≡ 65536 }
-    ensures { RestRead space.new result.last result.bytes }
+    ensures { IfSome result (λ rest. RestRead space.new rest.last rest.bytes) }
 {
-    let mut rest = Rest {
-        bytes: 0,
-        last: 0,
-        end: End::Full,
-    };
-    let mut turns = TURNS;
-    while 0 < turns {
-        turns -= 1;
-        let next = read_on(input, rest, space);
-        let end = next.end;
-        let End::Full = end else {
-            return next;
+    let mut rest = Rest { bytes: 0, last: 0 };
+    for _ in 0..TURNS {
+        let Ok(last) = fill(input, space) else {
+            return None;
         };
-        rest = next;
+        rest = Rest {
+            bytes: rest.bytes + last,
+            last,
+        };
+        if last < space.len() {
+            return Some(rest);
+        }
     }
-    rest
+    None
 }
 
 // A line on standard error; nothing more is printed.
@@ -107,7 +86,7 @@ fn hand<S: Print + Eprint>(rt: &S, text: &[u8])
 fn answer_input<S: Print + Eprint>(rt: &S, front: &[u8], bytes: usize)
     requires { Came front.now bytes }
 {
-    let mut whole = [0u8; 2564];
+    let mut whole = [0u8; FRONT];
     put_bytes(&mut whole, 0, front);
     let mut out = [0u8; 32_768];
     let n = listing(&whole, bytes, &mut out);
@@ -119,23 +98,18 @@ fn go_on<R: Read, S: Print + Eprint>(input: &mut R, rt: &S, front: &[u8])
     requires { length front.now ≡ 2564 }
 {
     let mut space = io::large_buffer();
-    let rest = count_rest(input, &mut space);
-    let end = rest.end;
-    match end {
-        End::Ended => answer_input(rt, front, FRONT + rest.bytes),
-        End::Full | End::Failed => unread(rt),
+    match count_rest(input, &mut space) {
+        Some(rest) => answer_input(rt, front, FRONT + rest.bytes),
+        None => unread(rt),
     }
 }
 
 fn main(rt: HostRuntime) {
     let mut input = rt.stdin();
-    let mut front = [0u8; 2564];
-    let came = fill(&mut input, &mut front);
-    let n = came.bytes;
-    let end = came.end;
-    match end {
-        End::Full => go_on(&mut input, &rt, &front),
-        End::Ended => answer_input(&rt, &front[..n], n),
-        End::Failed => unread(&rt),
+    let mut front = [0u8; FRONT];
+    match fill(&mut input, &mut front) {
+        Ok(FRONT) => go_on(&mut input, &rt, &front),
+        Ok(n) => answer_input(&rt, &front[..n], n),
+        Err(_) => unread(&rt),
     }
 }

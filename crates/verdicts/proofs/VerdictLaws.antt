@@ -3,8 +3,6 @@
 use Prim.Native.Nat.{ℕ, zero, suc, ◌+◌, ◌-◌, ◌*◌, ◌/◌, ◌≤◌}
 use mathlib.Core.{Path.{◌≡◌, refl, sym, ap, ◌∙◌}, List.{List, [], ◌∷◌}, Option.{Option, none}}
 use native.Mathlib.{Nat.{sub-zero}, Omega.{arith}}
-use types.Run.{OneOf, miss}
-use denote.Enum.Declared.{tag_of}
 use lib.{IntN.{ℤ}, ListN.{length, take, drop, replicate, length-drop}, Seq.{take_all}}
 use Rattle.molang.specs.Parse.{Call, Told, answered, tree_after, messages_after, work_after}
 use Rattle.molang.{specs.WriteEntry.{WriteCall, WriteTold, write_answered, list_after}, specs.Lines.{list_mark, call_for, version_of}}
@@ -13,14 +11,16 @@ use Rattle.own.specs.Own.{named_call}
 use Rattle.parse.specs.{Answers.{told_of, HasParsed}, declared.Answer.{Answer as Told'}}
 use Rattle.write.specs.Answers.{call}
 use Rattle.table.specs.{Marked.{unmarked, second_at, marked_count, first_words, fitting}, Answers.{holding, is_left}}
-use Rattle.verdicts.specs.{declared.Verdict.{Verdict}, declared.Verdict.TheVariants.{Same, Answer, Words}}
+use Rattle.std.specs.Prelude.{Result, Err}
+use Rattle.words.specs.declared.refusals.Refusal.{Refusal}
+use Rattle.verdicts.specs.declared.Difference as code
+use Rattle.verdicts.specs.declared.Difference.TheVariants.{Answer, Words}
 use Rattle.verdicts.specs.Verdicts.{verdict, is_read, read_verdict, is_written, write_verdict, lent_call, list_call, tree_call, Difference}
 use Rattle.verdicts.specs.Verdicts.{verdict_of, asked_words, from_version, asked_verdict, line_verdict}
-use Rattle.verdicts.specs.contracts.Verdict.{the_type}
 
 -- ---- What a call told and left
 
-pub read-judged : (c : Call) (r : Told') (tree messages work said : List ℕ) → HasParsed c r tree messages work
+pub read-judged : (c : Call) (r : Result Told' Refusal) (tree messages work said : List ℕ) → HasParsed c r tree messages work
     → verdict (is_read (told_of r) said) (is_left tree messages work said) ≡ read_verdict c said
 unfolding read_verdict
 read-judged c r tree messages work said h =
@@ -74,12 +74,10 @@ line-parts line middle is h =
 -- ---- One version after another
 
 -- What is found first stands.
-found : (v : Verdict) (later : Option Difference) → OneOf (1 ∷ 2 ∷ []) (tag_of the_type v)
-    → verdict_of v ≡ first_of (verdict_of v ∷ later ∷ [])
+found : (d : code.Difference) (later : Option Difference) → verdict_of (Err d) ≡ first_of (verdict_of (Err d) ∷ later ∷ [])
 unfolding first_of
-found Same later o = absurd (miss (1 ∷ 2 ∷ []) 0 tt o)
-found Answer later o = refl
-found Words later o = refl
+found Answer later = refl
+found Words later = refl
 
 module _ (list : List ℕ) (limit : ℕ) (said : List ℕ) (bits last : ℕ) where
   abbrev from : ℕ → ℕ → Option Difference
@@ -90,16 +88,18 @@ module _ (list : List ℕ) (limit : ℕ) (said : List ℕ) (bits last : ℕ) whe
       → from (last + 1 - bits) bits ≡ first_of (read_verdict (list_call list (version_of bits) limit) said ∷ from (last - bits) (bits + 1) ∷ [])
   turn h = unfold from_version in let e : last + 1 - bits ≡ suc (last - bits) = omega arith in rw e refl
 
-  module _ (h : bits ≤ last) (v : Verdict) (is : verdict_of v ≡ read_verdict (list_call list (version_of bits) limit) said) where
-    pub found-same : v ≡ Same → from (last + 1 - bits) bits ≡ from (last + 1 - (bits + 1)) (bits + 1)
-    found-same e =
+  module _ (h : bits ≤ last) where
+    pub found-same : none ≡ read_verdict (list_call list (version_of bits) limit) said
+        → from (last + 1 - bits) bits ≡ from (last + 1 - (bits + 1)) (bits + 1)
+    found-same is =
         let n : last + 1 - (bits + 1) ≡ last - bits = omega arith in
-        rw n (turn h ∙ after_none _ (from (last - bits) (bits + 1)) (sym is ∙ ap verdict_of e))
+        rw n (turn h ∙ after_none _ (from (last - bits) (bits + 1)) (sym is))
 
-    pub found-other : OneOf (1 ∷ 2 ∷ []) (tag_of the_type v) → verdict_of v ≡ from (last + 1 - bits) bits
-    found-other o =
+    pub found-other : (d : code.Difference) → verdict_of (Err d) ≡ read_verdict (list_call list (version_of bits) limit) said
+        → verdict_of (Err d) ≡ from (last + 1 - bits) bits
+    found-other d is =
         let later = from (last - bits) (bits + 1) in
-        found v later o ∙ (ap (λ (x : Option Difference). first_of (x ∷ later ∷ [])) is ∙ sym (turn h))
+        found d later ∙ (ap (λ (x : Option Difference). first_of (x ∷ later ∷ [])) is ∙ sym (turn h))
 
   pub none_left : last + 1 ≤ bits → none ≡ from (last + 1 - bits) bits
   none_left h = unfold from_version in let e : last + 1 - bits ≡ 0 = omega arith in rw e refl

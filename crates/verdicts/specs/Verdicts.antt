@@ -1,6 +1,6 @@
 -- Whether a line is answered as it says: what the definition tells for the calls that the line asks for, and what it leaves in the lent
 -- buffers. What a line asks and says by its numbers is table's.
-use Rattle.std.specs.Prelude.{ℕ, zero, suc, ◌+◌, ◌-◌, ◌*◌, ◌/◌, Bool, true, false, List, [], ◌∷◌, eqb, ℤ, length, take, drop, get_or, replicate}
+use Rattle.std.specs.Prelude.{Result, Ok, Err, ⊤, ℕ, zero, suc, ◌+◌, ◌-◌, ◌*◌, ◌/◌, Bool, true, false, List, [], ◌∷◌, eqb, ℤ, length, take, drop, get_or, replicate}
 use Rattle.std.proofs.Math.Option.{Option, none, some}
 use Rattle.molang.specs.FirstFailure.{must, first_of}
 use Rattle.molang.specs.Words.{operator_field}
@@ -13,18 +13,18 @@ use Rattle.own.specs.Own.{named_call}
 use Rattle.table.specs.Marked.{second_at, marked_count, first_words, fitting}
 use Rattle.table.specs.Asked.{first_version, last_version, limit_of}
 use Rattle.table.specs.Answers.{is_count, is_refusal, holding, is_left}
-use Rattle.verdicts.specs.declared.Verdict.{Verdict}
-use Rattle.verdicts.specs.declared.Verdict.TheVariants.{Same, Answer, Words}
+use Rattle.verdicts.specs.declared.Difference as code
+use Rattle.verdicts.specs.declared.Difference.TheVariants.{Answer, Words}
 
 -- What can differ from what a line says.
 pub data Difference : Type 0 where
   another_answer other_words : Difference
 
--- What each case of `Verdict` says: what differs, or that nothing does.
-abbrev pub verdict_of : Verdict → Option Difference
-verdict_of Same = none
-verdict_of Answer = some another_answer
-verdict_of Words = some other_words
+-- What the code finds to differ, or that nothing does.
+abbrev pub verdict_of : Result ⊤ code.Difference → Option Difference
+verdict_of (Ok _) = none
+verdict_of (Err Answer) = some another_answer
+verdict_of (Err Words) = some other_words
 
 -- What a call is told and what it leaves are each as the line says, or the first that is not.
 unfoldable pub verdict : Bool → Bool → Option Difference

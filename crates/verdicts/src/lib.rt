@@ -18,7 +18,8 @@ use table::answers::{is_count, is_left, is_refusal};
 use table::asked::{first_version, last_version, limit_of};
 use table::{MOST, at, holds, lay, next_mark};
 use words::fields;
-use write::{Written, write};
+use words::refusals::Refusal;
+use write::write;
 
 // The words of a list of 4,097 tokens, which are one more than the entry reads, and of a tree and of a work buffer for it. A list for a
 // tree of as many words has room in the tree's.
@@ -28,40 +29,45 @@ const TREE_WORDS: usize = 86_037;
 
 const WORK_WORDS: usize = 262_272;
 
-// Whether a call is answered as its line says, or what is first found to differ.
-#[derive(Clone, Copy)]
-pub enum Verdict {
-    Same,
+// What is first found to differ from what a line says.
+#[derive(Clone, Copy, Debug, PartialEq, Eq)]
+pub enum Difference {
     Answer,
     Words,
 }
 
 // What a call is told and what it leaves, each as the line says or not.
-fn compared(told: bool, left: bool) -> Verdict
+fn compared(told: bool, left: bool) -> Result<(), Difference>
     ensures { verdict_of result ≡ verdict told left }
 {
     if !told {
-        return Verdict::Answer;
+        return Err(Difference::Answer);
     }
     if !left {
-        return Verdict::Words;
+        return Err(Difference::Words);
     }
-    Verdict::Same
+    Ok(())
 }
 
 // Whether the line says what a parse call told.
-fn is_read(answered: Answer, said: &[u32]) -> bool
+fn is_read(answered: Result<Answer, Refusal>, said: &[u32]) -> bool
     ensures { result ≡ is_read (told_of answered) said.now }
 {
     match answered {
-        Answer::Tree(n) => is_count(TREE, n, said),
-        Answer::Messages(n) => is_count(MESSAGE, n, said),
-        Answer::Refused(number, place) => is_refusal(number, place, said),
+        Ok(Answer::Tree(n)) => is_count(TREE, n, said),
+        Ok(Answer::Messages(n)) => is_count(MESSAGE, n, said),
+        Err(refusal) => is_refusal(u32::from(refusal.reason), refusal.place, said),
     }
 }
 
 // Whether a parse call told and left what the line says.
-fn judged(answered: Answer, tree: &[u32], messages: &[u32], work: &[u32], said: &[u32]) -> Verdict
+fn judged(
+    answered: Result<Answer, Refusal>,
+    tree: &[u32],
+    messages: &[u32],
+    work: &[u32],
+    said: &[u32],
+) -> Result<(), Difference>
     ensures { verdict_of result ≡ verdict (is_read (told_of answered) said.now)
         (is_left tree.now messages.now work.now said.now) }
 {
@@ -78,7 +84,7 @@ fn read_with(
     tree: &mut [u32],
     work: &mut [u32],
     said: &[u32],
-) -> Verdict
+) -> Result<(), Difference>
     ensures { verdict_of result ≡ read_verdict
         (lent_call list.now version limit tree.old work.old) said.now }
 {
@@ -89,17 +95,17 @@ fn read_with(
 }
 
 // Whether the line says what a write call told.
-fn is_written(written: Written, said: &[u32]) -> bool
+fn is_written(written: Result<usize, Refusal>, said: &[u32]) -> bool
     ensures { result ≡ is_written (written_told written) said.now }
 {
     match written {
-        Written::Tokens(n) => is_count(LIST, n, said),
-        Written::Refused(number, place) => is_refusal(number, place, said),
+        Ok(n) => is_count(LIST, n, said),
+        Err(refusal) => is_refusal(u32::from(refusal.reason), refusal.place, said),
     }
 }
 
 // Writes a tree, and compares.
-fn write_with(tree: &[u32], list: &mut [u32], said: &[u32]) -> Verdict
+fn write_with(tree: &[u32], list: &mut [u32], said: &[u32]) -> Result<(), Difference>
     ensures { verdict_of result ≡ write_verdict (write_call tree.now list.old) said.now }
 {
     let written = write(tree, list);
@@ -128,7 +134,7 @@ fn fresh_work() -> [u32; WORK_WORDS]
 
 // Reads a list at a version and with a nesting limit, with buffers as long as the entry asks: work of ones, and the others of zeros. `ask`
 // lends a part of a list of LIST_WORDS words, here and below.
-fn read(list: &[u32], version: i16, limit: u32, said: &[u32]) -> Verdict
+fn read(list: &[u32], version: i16, limit: u32, said: &[u32]) -> Result<(), Difference>
     requires { length list.now ≤ 20485 }
     ensures { verdict_of result ≡ read_verdict (list_call list.now version limit) said.now }
 {
@@ -148,25 +154,19 @@ fn read(list: &[u32], version: i16, limit: u32, said: &[u32]) -> Verdict
 }
 
 // Reads it at each version that a mark asks for: at 4, 5 and 6, or at one.
-fn read_at(list: &[u32], mark: u32, said: &[u32]) -> Verdict
+fn read_at(list: &[u32], mark: u32, said: &[u32]) -> Result<(), Difference>
     requires { length list.now ≤ 20485 }
     ensures { verdict_of result ≡ at_versions list.now mark said.now }
 {
     let limit = limit_of(mark);
-    let last = last_version(mark);
-    let mut bits = first_version(mark);
-    while bits <= last {
-        let verdict = read(list, version_of(bits), limit, said);
-        let Verdict::Same = verdict else {
-            return verdict;
-        };
-        bits += 1;
+    for bits in first_version(mark)..last_version(mark) + 1 {
+        read(list, version_of(bits), limit, said)?;
     }
-    Verdict::Same
+    Ok(())
 }
 
 // Writes a tree into a list with room for three tokens a node, and compares.
-fn write_tree(tree: &[u32], said: &[u32]) -> Verdict
+fn write_tree(tree: &[u32], said: &[u32]) -> Result<(), Difference>
     requires { length tree.now ≤ 20485 }
     ensures { verdict_of result ≡ write_verdict (tree_call tree.now) said.now }
 {
@@ -176,7 +176,7 @@ fn write_tree(tree: &[u32], said: &[u32]) -> Verdict
 }
 
 // Makes the calls that a mark asks for with these words, and compares.
-fn call(words: &[u32], mark: u32, said: &[u32]) -> Verdict
+fn call(words: &[u32], mark: u32, said: &[u32]) -> Result<(), Difference>
     requires { length words.now ≤ 20485 }
     ensures { verdict_of result ≡ words_verdict words.now mark said.now }
 {
@@ -187,7 +187,7 @@ fn call(words: &[u32], mark: u32, said: &[u32]) -> Verdict
 }
 
 // Makes the calls that a mark with its items asks for, and compares.
-fn ask(asked: &[u32], said: &[u32]) -> Verdict
+fn ask(asked: &[u32], said: &[u32]) -> Result<(), Difference>
     ensures { verdict_of result ≡ asked_verdict asked.now said.now }
 {
     let mut words = fresh_list();
@@ -197,7 +197,7 @@ fn ask(asked: &[u32], said: &[u32]) -> Verdict
 
 // Makes the calls of a line, which are those of molang's specs/Lines, and compares. A line is a mark that asks and its items, and the marks
 // that answer and theirs.
-pub fn run_line(line: &[u32]) -> Verdict
+pub fn run_line(line: &[u32]) -> Result<(), Difference>
     ensures { verdict_of result ≡ line_verdict line.now }
 {
     if line.len() == 0 {

@@ -1,20 +1,18 @@
 -- The check of words in list order, one word at a time: the first bad word ends it, a good one hands it on; and the check of a list
 -- that opens with a token. Assumes nothing.
-use mathlib.Core.{Path.{◌≡◌, refl, sym, ap, ◌∙◌}, Bool.{Bool, true, false}, List.{List, [], ◌∷◌, ◌++◌}, Logic.{⊎_elim}, Option.{none, some}}
+use mathlib.Core.{Path.{◌≡◌, refl, sym, ap, ◌∙◌}, Bool.{Bool, true, false}, List.{List, [], ◌∷◌, ◌++◌}, Option.{none, some}}
 use Prim.Native.Nat.{ℕ, suc, ◌+◌, ◌-◌, ◌*◌, ◌/◌, ◌%◌, ◌^◌, ◌≤◌, ◌<◌}
 use native.Mathlib.{Numerals.{add-one, add-two, add-three, add-four, add_five}, Omega.{arith}}
 use lib.{Dec.{eqb, leb, ltb}, Pow.{field, mod-mod-pow}}
 use borrow.Author.Tests.{eq-eqb, eqb-true, le-leb, lt-ltb}
-use types.Run.{OneOf}
-use denote.Enum.Declared.{tag_of}
 use Rattle.molang.specs.Operator.{is_operator}
 use Rattle.molang.specs.Words.{kind_of, low_of, Field, operator_field, start_field, end_field, upper_field, lower_field, field_kind, low_fault}
 use Rattle.molang.specs.{Words.{word_fault, variant_after, next_in_token, Refusal, row, with_place, words_refusal}, FirstFailure.{must, first_of}}
-use Rattle.molang.proofs.{FirstFailure.{found, later-found}, OldWords.{old-number, old-answer}, Trees.{some-none}, Words.{next_word}}
+use Rattle.molang.proofs.{FirstFailure.{found, later-found, behind, before-none, last_one}, OldWords.{old-number, old-answer}, Trees.{some-none}, Words.{next_word}}
 use Rattle.molang.proofs.ListWords.{list-word}
-use Rattle.words.specs.{Fields.{operator_of, variant_of}, Checks.{number_of, LowOperator, HalfWords}, declared.checks.Word.{Word}}
-use Rattle.words.specs.declared.checks.Word.TheVariants.{Good, WrongKind, HighOperator, HighVariant, OtherBit}
-use Rattle.words.specs.contracts.checks.Word.{the_type}
+use Rattle.std.specs.Prelude.{⊤, Result, Ok, Err}
+use Rattle.words.specs.{Fields.{operator_of, variant_of}, Checks.{number_of, LowOperator, HalfWords}, Refusals.{reason_number, refusal_row}}
+use Rattle.words.specs.declared.refusals.Reason.{Reason}
 
 -- The three tests of the low bits of a word of kind 1, by its fields.
 pub operator-tests : (w : ℕ)
@@ -22,33 +20,23 @@ pub operator-tests : (w : ℕ)
     ≡ first_of (must (is_operator (operator_of w)) 9 ∷ must (leb (variant_of w) 12) 10 ∷ must (ltb (low_of w) 65536) 11 ∷ [])
 operator-tests w = unfold low_fault operator_of variant_of in refl
 
-pub none-bad : OneOf (1 ∷ 2 ∷ 3 ∷ 4 ∷ []) 0 → ⊥
-none-bad = ⊎_elim (λ e. omega arith) (⊎_elim (λ e. omega arith) (⊎_elim (λ e. omega arith) (λ e. omega arith)))
-
 module _ (i : ℕ) (field : Field) (v w : ℕ) (ws : List ℕ) where
   bad-word : (n : ℕ) → some n ≡ word_fault field v w → some (row n i) ≡ words_refusal i field v (w ∷ ws)
   bad-word n e = unfold words_refusal in sym (found (with_place i (word_fault field v w)) (row n i) _ (ap (with_place i) (sym e)))
 
-  pub first-bad : (x : Word) → OneOf (1 ∷ 2 ∷ 3 ∷ 4 ∷ []) (tag_of the_type x) → number_of x ≡ word_fault field v w
-      → with_place i (number_of x) ≡ words_refusal i field v (w ∷ ws)
-  first-bad Good h e = absurd (none-bad h)
-  first-bad WrongKind h e = bad-word 8 e
-  first-bad HighOperator h e = bad-word 9 e
-  first-bad HighVariant h e = bad-word 10 e
-  first-bad OtherBit h e = bad-word 11 e
+  pub first-bad : (r : Reason) → some (reason_number r) ≡ word_fault field v w
+      → some (refusal_row (record { reason = r; place = i })) ≡ words_refusal i field v (w ∷ ws)
+  first-bad r e = bad-word (reason_number r) e
 
   pub good-word : none ≡ word_fault field v w
       → words_refusal (suc i) (next_in_token field) (variant_after field v w) ws ≡ words_refusal i field v (w ∷ ws)
   good-word e = sym (list-word i field v w ws (sym e))
 
-pub last_word : (i : ℕ) (field : Field) (v w : ℕ) (x : Word) → number_of x ≡ word_fault field v w
+pub last_word : (i : ℕ) (field : Field) (v w : ℕ) (x : Result ⊤ Reason) → number_of x ≡ word_fault field v w
     → with_place i (number_of x) ≡ words_refusal i field v (w ∷ [])
 unfolding words_refusal
-last_word i field v w Good e = good-word i field v w [] e
-last_word i field v w WrongKind e = bad-word i field v w [] 8 e
-last_word i field v w HighOperator e = bad-word i field v w [] 9 e
-last_word i field v w HighVariant e = bad-word i field v w [] 10 e
-last_word i field v w OtherBit e = bad-word i field v w [] 11 e
+last_word i field v w (Ok _) e = good-word i field v w [] e
+last_word i field v w (Err r) e = bad-word i field v w [] (reason_number r) e
 
 -- The tests of the four other words, by kind.
 pub start-tests : (v w : ℕ) → first_of {A = ℕ} (must (eqb (kind_of w) 2) 8 ∷ low_fault start_field 0 (low_of w) ∷ []) ≡ word_fault start_field v w
@@ -63,26 +51,23 @@ upper-tests v w = unfold word_fault field_kind in refl
 pub lower-tests : (v w : ℕ) → first_of {A = ℕ} (must (eqb (kind_of w) 5) 8 ∷ low_fault upper_field v (low_of w) ∷ []) ≡ word_fault lower_field v w
 lower-tests v w = unfold word_fault field_kind low_fault in refl
 
--- A token's words, each one good up to the next.
-module _ (at a b c d e : ℕ) where
-  pub after_first : none ≡ word_fault operator_field 0 a
-      → words_refusal (at + 1) start_field (variant_of a) (b ∷ c ∷ d ∷ e ∷ []) ≡ words_refusal at operator_field 0 (a ∷ b ∷ c ∷ d ∷ e ∷ [])
-  after_first good = unfold next_in_token variant_after variant_of in rw add-one (good-word at operator_field 0 a (b ∷ c ∷ d ∷ e ∷ []) good)
-
-  pub after-start : (v : ℕ) → none ≡ word_fault start_field v b
-      → words_refusal (at + 2) end_field v (c ∷ d ∷ e ∷ []) ≡ words_refusal (at + 1) start_field v (b ∷ c ∷ d ∷ e ∷ [])
-  unfolding next_in_token variant_after
-  after-start v good = rw (add-one at, add-two at) (good-word (suc at) start_field v b (c ∷ d ∷ e ∷ []) good)
-
-  pub after-end : (v : ℕ) → none ≡ word_fault end_field v c
-      → words_refusal (at + 3) upper_field v (d ∷ e ∷ []) ≡ words_refusal (at + 2) end_field v (c ∷ d ∷ e ∷ [])
-  unfolding next_in_token variant_after
-  after-end v good = rw (add-two at, add-three at) (good-word (suc (suc at)) end_field v c (d ∷ e ∷ []) good)
-
-  pub after-upper : (v : ℕ) → none ≡ word_fault upper_field v d
-      → words_refusal (at + 4) lower_field v (e ∷ []) ≡ words_refusal (at + 3) upper_field v (d ∷ e ∷ [])
-  unfolding next_in_token variant_after
-  after-upper v good = rw (add-three at, add-four at) (good-word (suc (suc (suc at))) upper_field v d (e ∷ []) good)
+-- The five words of a token, in the tests that the code makes of them.
+pub token-tests : (at a b c d e : ℕ)
+    → words_refusal at operator_field 0 (a ∷ b ∷ c ∷ d ∷ e ∷ [])
+    ≡ first_of
+    (with_place at (word_fault operator_field 0 a)
+    ∷ with_place (at + 1) (first_of (must (eqb (kind_of b) 2) 8 ∷ low_fault start_field 0 (low_of b) ∷ []))
+    ∷ with_place (at + 2) (first_of (must (eqb (kind_of c) 3) 8 ∷ low_fault start_field 0 (low_of c) ∷ []))
+    ∷ with_place (at + 3) (first_of (must (eqb (kind_of d) 4) 8 ∷ low_fault upper_field (variant_of a) (low_of d) ∷ []))
+    ∷ with_place (at + 4) (first_of (must (eqb (kind_of e) 5) 8 ∷ low_fault upper_field (variant_of a) (low_of e) ∷ []))
+    ∷ [])
+unfolding words_refusal next_in_token variant_after variant_of
+token-tests at a b c d e =
+    rw (add-one at, add-two at, add-three at, add-four at)
+    (behind _ _ _
+    (last_one _
+    ∙ rw (start-tests (variant_of a) b, end-tests (variant_of a) c, upper-tests (variant_of a) d, lower-tests (variant_of a) e)
+    (behind _ _ _ (last_one _ ∙ behind _ _ _ (last_one _ ∙ behind _ _ _ (last_one _ ∙ (before-none _ none refl ∙ sym (last_one _))))))))
 
 -- ---- A list that opens with a token
 

@@ -5,12 +5,17 @@ use Prim.Native.Nat.{ℕ, ◌+◌, ◌≤◌}
 use native.Mathlib.{Nat.{add_assoc}, Omega.{arith}}
 use lib.ListN.{length, take, drop, length-append, length-drop, take-append-drop}
 use lib.Seq.{sets, sets-eq, drop-drop, length-take-le, take_at, drop_at, take-append-le, take-take, take-append_seam, drop-append_seam}
+use borrow.Rule.Slice.PartMut.{put_mid}
 use Rattle.molang.specs.Parse.{in_front}
 use Rattle.words.specs.Records.{laid_at}
 
 pub laid-sets : (ws l : List ℕ) (at : ℕ) → at + length ws ≤ length l → sets l at ws ≡ laid_at at ws l
 unfolding laid_at in_front
 laid-sets ws l at room = sets-eq ws l at room ∙ rw (drop-drop (length ws) at l) (append_assoc (take at l) ws (drop (at + length ws) l))
+
+-- Words that were copied to a part of a buffer.
+pub laid-part : (at k : ℕ) (ys ws l : List ℕ) → k ≡ length ws → ys ≡ ws → put_mid at k l ys ≡ laid_at at ws l
+laid-part at k ys ws l long e = unfold laid_at in_front in rw (long, e) refl
 
 -- The first words of a buffer.
 pub laid-front : (ws l : List ℕ) → laid_at 0 ws l ≡ in_front ws l

@@ -1,25 +1,21 @@
 -- What each case of the checks' answers means: document 01's answer number for a word, and the number and place for a token.
-use Rattle.std.specs.Prelude.{ℕ, ◌%◌, ◌^◌, ◌≤◌, ◌≡◌}
+use Rattle.std.specs.Prelude.{ℕ, ◌%◌, ◌^◌, ◌≤◌, ◌≡◌, ⊤, Result, Ok, Err}
 use Rattle.std.proofs.Math.Option.{Option, none, some}
-use Rattle.molang.specs.Words.{operator_field, upper_field, lower_field, word_fault, Refusal, row}
+use Rattle.molang.specs.Words.{operator_field, upper_field, lower_field, word_fault, Refusal}
 use Rattle.words.specs.Fields.{operator_of, variant_of}
-use Rattle.words.specs.declared.checks.Word.{Word}
-use Rattle.words.specs.declared.checks.Word.TheVariants.{Good, WrongKind, HighOperator, HighVariant, OtherBit}
-use Rattle.words.specs.declared.checks.Checked.{Checked}
-use Rattle.words.specs.declared.checks.Checked.TheVariants.{Good as Passed, Bad}
+use Rattle.words.specs.Refusals.{reason_number, refusal_row}
+use Rattle.words.specs.declared.refusals.Reason.{Reason}
+use Rattle.words.specs.declared.refusals.Refusal as code
 
 -- The answer to a word.
-abbrev pub number_of : Word → Option ℕ
-number_of Good = none
-number_of WrongKind = some 8
-number_of HighOperator = some 9
-number_of HighVariant = some 10
-number_of OtherBit = some 11
+abbrev pub number_of : Result ⊤ Reason → Option ℕ
+number_of (Ok _) = none
+number_of (Err reason) = some (reason_number reason)
 
 -- The answer to a token.
-abbrev pub refusal_of : Checked → Option Refusal
-refusal_of Passed = none
-refusal_of (Bad n p) = some (row n p)
+abbrev pub refusal_of : Result ⊤ code.Refusal → Option Refusal
+refusal_of (Ok _) = none
+refusal_of (Err r) = some (refusal_row r)
 
 -- A legal word of kind 1 whose operator is its low byte: no host's number.
 pub record LowOperator (w : ℕ) : Type 0 where

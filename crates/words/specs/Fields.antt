@@ -1,6 +1,18 @@
 -- The fields of a token's words, as `token_of` of the definition reads them, and the words that the reader makes.
 use Rattle.std.specs.Prelude.{ℕ, ◌+◌, ◌*◌, ◌/◌, ◌%◌, ◌^◌}
 use Rattle.molang.specs.Words.{low_of, number_in}
+use Rattle.words.specs.declared.fields.WordKind.{WordKind}
+use Rattle.words.specs.declared.fields.WordKind.TheVariants.{Operator, Start, End, Upper, Lower, Children, Close}
+
+-- The number of a kind, which a word has in its top three bits.
+abbrev pub kind_number : WordKind → ℕ
+kind_number Operator = 1
+kind_number Start = 2
+kind_number End = 3
+kind_number Upper = 4
+kind_number Lower = 5
+kind_number Children = 6
+kind_number Close = 7
 
 -- The operator of a word of kind 1.
 unfoldable pub operator_of : ℕ → ℕ

@@ -1,5 +1,6 @@
 -- The words of the format as the code reads and makes them, as definitions.
 pub mod Fields
+pub mod Refusals
 pub mod Checks
 pub mod Records
 pub mod Tokens

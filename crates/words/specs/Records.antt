@@ -2,7 +2,32 @@
 use Rattle.std.specs.Prelude.{ℕ, List, ◌++◌, take, drop}
 use Rattle.molang.specs.Message.{record8}
 use Rattle.molang.specs.Parse.{in_front}
+use Rattle.words.specs.declared.records.Message.{Message}
+use Rattle.words.specs.declared.records.Message.TheVariants.{MultipleRoots, ComplexMustEndWithSemicolon, LeadingMemberAccessor, ClosingMismatch, SectionNotClosed}
+use Rattle.words.specs.declared.records.Message.TheVariants.{NoClosingSymbol, EmptyParameterList, MathAtEnd, MathWithoutParenthesis, LeadingSemicolon}
+use Rattle.words.specs.declared.records.Message.TheVariants.{EmptyArrayIndex, BinaryAtEnd, NegateWithoutOperand, NotWithoutOperand, UnknownOperation}
+use Rattle.words.specs.declared.records.Message.TheVariants.{UnaryWithoutOperand, TernaryWithoutOperands}
 use Rattle.words.specs.declared.records.Record.{Record}
+
+-- The number of a message.
+abbrev pub message_number : Message → ℕ
+message_number MultipleRoots = 1
+message_number ComplexMustEndWithSemicolon = 2
+message_number LeadingMemberAccessor = 3
+message_number ClosingMismatch = 4
+message_number SectionNotClosed = 5
+message_number NoClosingSymbol = 6
+message_number EmptyParameterList = 7
+message_number MathAtEnd = 8
+message_number MathWithoutParenthesis = 9
+message_number LeadingSemicolon = 10
+message_number EmptyArrayIndex = 11
+message_number BinaryAtEnd = 12
+message_number NegateWithoutOperand = 13
+message_number NotWithoutOperand = 14
+message_number UnknownOperation = 15
+message_number UnaryWithoutOperand = 16
+message_number TernaryWithoutOperands = 17
 
 -- A record with no argument.
 abbrev pub unnamed : ℕ → ℕ → ℕ → Record

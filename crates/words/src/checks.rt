@@ -4,48 +4,34 @@ ghost use Rattle.std.specs.Prelude.{◌≡◌, true, [], ◌∷◌, ℕ, ◌+◌
 ghost use Rattle.std.proofs.Math.Option.{none};
 ghost use Rattle.molang.specs.Words.{kind_of, low_of, operator_field, start_field, upper_field, low_fault, word_fault, with_place, words_refusal};
 ghost use Rattle.molang.specs.FirstFailure.{must, first_of};
+ghost use Rattle.words.specs.Fields.{kind_number};
 ghost use Rattle.words.specs.Tokens.{five_words};
 ghost use Rattle.words.specs.Checks.{number_of, refusal_of, LowOperator, HalfWords};
 
+use crate::fields;
+use crate::fields::WordKind;
+use crate::refusals::{Reason, Refusal};
 use crate::tokens::TokenWords;
-use crate::{fields, refusals};
-
-// What is wrong with a word.
-#[derive(Clone, Copy)]
-pub enum Word {
-    Good,
-    WrongKind,
-    HighOperator,
-    HighVariant,
-    OtherBit,
-}
-
-// The check of a token: good, or the answer's number and the place in the list of its first bad word.
-#[derive(Clone, Copy)]
-pub enum Checked {
-    Good,
-    Bad(u32, usize),
-}
 
 // Low bits that are to be below the limit.
-fn below(low: u32, limit: u32) -> Word
+fn below(low: u32, limit: u32) -> Result<(), Reason>
     ensures { number_of result ≡ must (ltb low limit) 11 }
 {
     if limit <= low {
-        return Word::OtherBit;
+        return Err(Reason::OtherBit);
     }
-    Word::Good
+    Ok(())
 }
 
 // A word of kind 1, by its low bits: operator, then payload variant, then the other bits.
-fn low_bits(w: u32) -> Word
+fn low_bits(w: u32) -> Result<(), Reason>
     ensures { number_of result ≡ low_fault operator_field 0 (low_of w) }
 {
     if !fields::is_operator(fields::operator(w)) {
-        return Word::HighOperator;
+        return Err(Reason::HighOperator);
     }
     if fields::LAST_VARIANT < fields::variant(w) {
-        return Word::HighVariant;
+        return Err(Reason::HighVariant);
     }
     let low = fields::low(w);
     below(low, 65536)
@@ -53,25 +39,25 @@ fn low_bits(w: u32) -> Word
 
 // The same if bits 12-28 are 0, as they are in most words: bits 0-7 are the operator, and the variant stands above it. `operator_word`
 // has looked at the bits.
-fn twelve_bits(low: u32) -> Word
+fn twelve_bits(low: u32) -> Result<(), Reason>
     requires { low < 2 ^ 12 }
     ensures { number_of result ≡ low_fault operator_field 0 low }
 {
     if fields::LAST_OPERATOR < low % 256 {
-        return Word::HighOperator;
+        return Err(Reason::HighOperator);
     }
     if fields::LAST_VARIANT < low / 256 {
-        return Word::HighVariant;
+        return Err(Reason::HighVariant);
     }
-    Word::Good
+    Ok(())
 }
 
 // A word of kind 1.
-pub fn operator_word(w: u32) -> Word
+pub fn operator_word(w: u32) -> Result<(), Reason>
     ensures { number_of result ≡ word_fault operator_field 0 w }
 {
-    if fields::kind(w) != fields::OPERATOR {
-        return Word::WrongKind;
+    if !WordKind::Operator.is_of(w) {
+        return Err(Reason::WrongKind);
     }
     let low = fields::low(w);
     if low < 4096 {
@@ -81,21 +67,21 @@ pub fn operator_word(w: u32) -> Word
 }
 
 // A word of kind 2, 3 or 7, all of whose bits are used.
-pub fn span_word(w: u32, kind: u32) -> Word
-    ensures { number_of result ≡ first_of (must (eqb (kind_of w) kind) 8 ∷ low_fault start_field 0 (low_of w) ∷ []) }
+pub fn span_word(w: u32, kind: WordKind) -> Result<(), Reason>
+    ensures { number_of result ≡ first_of (must (eqb (kind_of w) (kind_number kind)) 8 ∷ low_fault start_field 0 (low_of w) ∷ []) }
 {
-    if fields::kind(w) != kind {
-        return Word::WrongKind;
+    if !kind.is_of(w) {
+        return Err(Reason::WrongKind);
     }
-    Word::Good
+    Ok(())
 }
 
 // A word of kind 4 or 5 in a token of the given payload variant, under variant 0 of which it holds 0.
-pub fn half_word(w: u32, kind: u32, variant: u32) -> Word
-    ensures { number_of result ≡ first_of (must (eqb (kind_of w) kind) 8 ∷ low_fault upper_field variant (low_of w) ∷ []) }
+pub fn half_word(w: u32, kind: WordKind, variant: u32) -> Result<(), Reason>
+    ensures { number_of result ≡ first_of (must (eqb (kind_of w) (kind_number kind)) 8 ∷ low_fault upper_field variant (low_of w) ∷ []) }
 {
-    if fields::kind(w) != kind {
-        return Word::WrongKind;
+    if !kind.is_of(w) {
+        return Err(Reason::WrongKind);
     }
     if variant == 0 {
         return below(fields::low(w), 1);
@@ -103,17 +89,11 @@ pub fn half_word(w: u32, kind: u32, variant: u32) -> Word
     below(fields::low(w), 65536)
 }
 
-// The answer's number for a bad word, and its place.
-pub fn judged(word: Word, place: usize) -> Checked
+// What is wrong with a word, told at its place.
+pub fn judged(word: Result<(), Reason>, place: usize) -> Result<(), Refusal>
     ensures { refusal_of result ≡ with_place place (number_of word) }
 {
-    match word {
-        Word::Good => Checked::Good,
-        Word::WrongKind => Checked::Bad(refusals::WRONG_KIND, place),
-        Word::HighOperator => Checked::Bad(refusals::HIGH_OPERATOR, place),
-        Word::HighVariant => Checked::Bad(refusals::HIGH_VARIANT, place),
-        Word::OtherBit => Checked::Bad(refusals::OTHER_BIT, place),
-    }
+    word.map_err(|reason| reason.at(place))
 }
 
 // Whether the word is of kind 1 and legal with no bit from 12 on, so that its operator is its low byte. Every operator but a host's is so.
@@ -182,42 +162,35 @@ fn is_usual(words: TokenWords) -> bool
 }
 
 // The first bad one of the five words of a token, word by word. `token` asks the same.
-fn first_bad(words: TokenWords, at: usize) -> Checked
+fn first_bad(words: TokenWords, at: usize) -> Result<(), Refusal>
     requires { at + 4 < 2 ^ 64 }
     ensures { refusal_of result ≡ words_refusal at operator_field 0 (five_words words) }
 {
-    let one = operator_word(words.operator);
-    let Word::Good = one else {
-        return judged(one, at);
-    };
-    let two = span_word(words.start, fields::START);
-    let Word::Good = two else {
-        return judged(two, at + fields::START_FIELD);
-    };
-    let three = span_word(words.end, fields::END);
-    let Word::Good = three else {
-        return judged(three, at + fields::END_FIELD);
-    };
     let variant = fields::variant(words.operator);
-    let four = half_word(words.upper, fields::UPPER, variant);
-    let Word::Good = four else {
-        return judged(four, at + fields::UPPER_FIELD);
-    };
-    let five = half_word(words.lower, fields::LOWER, variant);
-    judged(five, at + fields::LOWER_FIELD)
+    judged(operator_word(words.operator), at)?;
+    judged(
+        span_word(words.start, WordKind::Start),
+        at + fields::START_FIELD,
+    )?;
+    judged(span_word(words.end, WordKind::End), at + fields::END_FIELD)?;
+    judged(
+        half_word(words.upper, WordKind::Upper, variant),
+        at + fields::UPPER_FIELD,
+    )?;
+    judged(
+        half_word(words.lower, WordKind::Lower, variant),
+        at + fields::LOWER_FIELD,
+    )
 }
 
 // The first bad one of the five words of a token, which stand from `at` on in the list. The caller has read them out of the list, so
 // their places are numbers of words.
-pub fn token(words: TokenWords, at: usize) -> Checked
+pub fn token(words: TokenWords, at: usize) -> Result<(), Refusal>
     requires { at + 4 < 2 ^ 64 }
     ensures { refusal_of result ≡ words_refusal at operator_field 0 (five_words words) }
 {
-    if is_bare(words) {
-        return Checked::Good;
-    }
-    if is_usual(words) {
-        return Checked::Good;
+    if is_bare(words) || is_usual(words) {
+        return Ok(());
     }
     first_bad(words, at)
 }

@@ -1,6 +1,6 @@
 // The extent of a node: the least start and the greatest end among its own span and those of all nodes below it
 // (`full_span` of ast.rs), found over preorder tree words. Leans on the fields; specs/Extents has the definition's.
-ghost use Rattle.std.specs.Prelude.{◌≡◌, ◌<◌, ◌^◌, min, max, length};
+ghost use Rattle.std.specs.Prelude.{◌≡◌, ◌<◌, ◌^◌, length};
 ghost use Rattle.molang.specs.WriteEntry.{trees_of};
 ghost use Rattle.words.specs.Extents.{wider, first_extent};
 
@@ -12,31 +12,13 @@ pub struct Extent {
     pub end: u32,
 }
 
-fn lesser(a: u32, b: u32) -> u32
-    ensures { result ≡ min a b }
-{
-    if a <= b {
-        return a;
-    }
-    b
-}
-
-fn greater(a: u32, b: u32) -> u32
-    ensures { result ≡ max a b }
-{
-    if a <= b {
-        return b;
-    }
-    a
-}
-
 // A span of two words taken into an extent.
 pub fn widened(seen: Extent, start_word: u32, end_word: u32) -> Extent
     ensures { result ≡ wider seen start_word end_word }
 {
     Extent {
-        start: lesser(seen.start, fields::low(start_word)),
-        end: greater(seen.end, fields::low(end_word)),
+        start: seen.start.min(fields::low(start_word)),
+        end: seen.end.max(fields::low(end_word)),
     }
 }
 
@@ -51,19 +33,13 @@ pub fn of_tree(words: &[u32]) -> Extent
         end: 0,
     };
     let mut trees = 1usize;
-    let mut at = 0usize;
-    while 0 < trees {
-        if words.len() - at < fields::NODE_WORDS {
-            return seen;
+    for node in words.chunks_exact(fields::NODE_WORDS) {
+        if trees == 0 {
+            break;
         }
-        seen = widened(
-            seen,
-            words[at + fields::START_FIELD],
-            words[at + fields::END_FIELD],
-        );
-        let below = fields::low(words[at + fields::COUNT_FIELD]) as usize;
+        seen = widened(seen, node[fields::START_FIELD], node[fields::END_FIELD]);
+        let below = fields::low(node[fields::COUNT_FIELD]) as usize;
         trees = trees - 1 + below;
-        at += fields::NODE_WORDS;
     }
     seen
 }

@@ -1,28 +1,13 @@
 // Kinds and fields of words: the top three bits are the kind. A token is five words, a tree node those, its child count and where it
 // closes.
 // Leans on nothing; specs/Fields names the fields as the definition reads them.
-ghost use Rattle.std.specs.Prelude.{◌≡◌, ◌/◌, ◌%◌, ◌^◌};
+ghost use Rattle.std.specs.Prelude.{◌≡◌, ◌<◌, ◌/◌, ◌%◌, ◌^◌, eqb};
 ghost use Rattle.molang.specs.Operator.{is_operator};
 ghost use Rattle.molang.specs.Words.{word, kind_of, low_of, operator_bits};
-ghost use Rattle.words.specs.Fields.{operator_of, variant_of, half_of, value_of, with_operator};
+ghost use Rattle.words.specs.Fields.{kind_number, operator_of, variant_of, half_of, value_of, with_operator};
 
 // A word is its kind times this, and what stands in bits 0-28.
 pub const KIND: u32 = 0x2000_0000;
-
-// The kinds.
-pub const OPERATOR: u32 = 1;
-
-pub const START: u32 = 2;
-
-pub const END: u32 = 3;
-
-pub const UPPER: u32 = 4;
-
-pub const LOWER: u32 = 5;
-
-pub const CHILDREN: u32 = 6;
-
-pub const CLOSE: u32 = 7;
 
 // Which word of a token or node is which: the operator's is the first.
 pub const START_FIELD: usize = 1;
@@ -57,6 +42,43 @@ pub const LAST_VARIANT: u32 = 12;
 
 // The payload variant of a host math function.
 pub const HOST_MATH: u32 = 12;
+
+// The kind of a word.
+#[derive(Clone, Copy, Debug, PartialEq, Eq)]
+pub enum WordKind {
+    Operator = 1,
+    Start = 2,
+    End = 3,
+    Upper = 4,
+    Lower = 5,
+    Children = 6,
+    Close = 7,
+}
+
+impl From<WordKind> for u32 {
+    ghost from_gives = { λ kind number. number ≡ kind_number kind };
+
+    fn from(kind: WordKind) -> u32 {
+        kind as u32
+    }
+}
+
+impl WordKind {
+    // Whether the word is of this kind.
+    pub fn is_of(self, w: u32) -> bool
+        ensures { result ≡ eqb (kind_of w) (kind_number self) }
+    {
+        kind(w) == u32::from(self)
+    }
+
+    // The word of this kind with these bits 0-28, which the functions below cut to them.
+    fn word(self, low: u32) -> u32
+        requires { low < 2 ^ 29 }
+        ensures { result ≡ word (kind_number self) low }
+    {
+        u32::from(self) * KIND + low
+    }
+}
 
 // A number as a count or an index. It asks its caller for no proof, as a cast of an element of a slice would.
 pub fn wide(x: u32) -> usize
@@ -120,14 +142,14 @@ pub fn half(w: u32) -> u32
 pub fn operator_word(op: u32) -> u32
     ensures { result ≡ word 1 (op % 2 ^ 8) }
 {
-    OPERATOR * KIND + op % 256
+    WordKind::Operator.word(op % 256)
 }
 
 // A word of kind 1 for a number of at most twelve bits, a host's too, with payload variant 0.
 pub fn number_word(n: u32) -> u32
     ensures { result ≡ word 1 (operator_bits (n % 2 ^ 12) 0) }
 {
-    OPERATOR * KIND + n / 256 % 16 * 4096 + n % 256
+    WordKind::Operator.word(n / 256 % 16 * 4096 + n % 256)
 }
 
 // The word of kind 1 with op, which is below 256, in place of its operator.
@@ -141,42 +163,42 @@ pub fn with_operator(w: u32, op: u32) -> u32
 pub fn start_word(n: u32) -> u32
     ensures { result ≡ word 2 (low_of n) }
 {
-    START * KIND + n % KIND
+    WordKind::Start.word(n % KIND)
 }
 
 // A word of kind 3 for a span that ends at n.
 pub fn end_word(n: u32) -> u32
     ensures { result ≡ word 3 (low_of n) }
 {
-    END * KIND + n % KIND
+    WordKind::End.word(n % KIND)
 }
 
 // A word of kind 6 for n children.
 pub fn children_word(n: u32) -> u32
     ensures { result ≡ word 6 (n % 2 ^ 14) }
 {
-    CHILDREN * KIND + n % 16384
+    WordKind::Children.word(n % 16384)
 }
 
 // A word of kind 7 for a node that closes at n.
 pub fn close_word(n: u32) -> u32
     ensures { result ≡ word 7 (low_of n) }
 {
-    CLOSE * KIND + n % KIND
+    WordKind::Close.word(n % KIND)
 }
 
 // The word of the upper half of a payload value.
 pub fn upper_word(value: u32) -> u32
     ensures { result ≡ word 4 (value / 2 ^ 16) }
 {
-    UPPER * KIND + value / 65536
+    WordKind::Upper.word(value / 65536)
 }
 
 // The word of the lower half of a payload value.
 pub fn lower_word(value: u32) -> u32
     ensures { result ≡ word 5 (value % 2 ^ 16) }
 {
-    LOWER * KIND + value % 65536
+    WordKind::Lower.word(value % 65536)
 }
 
 // The payload value of two halves.

@@ -1,41 +1,39 @@
-// Message records: eight words, number, start, end and five arguments; and the numbers of the messages.
-// Leans on nothing; specs/Records says which words a record is.
+// Message records: eight words, number, start, end and five arguments; and the messages, with their numbers.
+// Leans on the fields; specs/Records says which words a record is.
 ghost use Rattle.std.specs.Prelude.{◌≡◌, ◌+◌, ◌≤◌, length};
-ghost use Rattle.words.specs.Records.{unnamed, with_first, with_last, words_of, laid_at};
+ghost use Rattle.words.specs.Records.{message_number, unnamed, with_first, with_last, words_of, laid_at};
 
-pub const MULTIPLE_ROOTS: u32 = 1;
+use crate::fields;
 
-pub const COMPLEX_MUST_END_WITH_SEMICOLON: u32 = 2;
+// What a message says.
+#[derive(Clone, Copy, Debug, PartialEq, Eq)]
+pub enum Message {
+    MultipleRoots = 1,
+    ComplexMustEndWithSemicolon = 2,
+    LeadingMemberAccessor = 3,
+    ClosingMismatch = 4,
+    SectionNotClosed = 5,
+    NoClosingSymbol = 6,
+    EmptyParameterList = 7,
+    MathAtEnd = 8,
+    MathWithoutParenthesis = 9,
+    LeadingSemicolon = 10,
+    EmptyArrayIndex = 11,
+    BinaryAtEnd = 12,
+    NegateWithoutOperand = 13,
+    NotWithoutOperand = 14,
+    UnknownOperation = 15,
+    UnaryWithoutOperand = 16,
+    TernaryWithoutOperands = 17,
+}
 
-pub const LEADING_MEMBER_ACCESSOR: u32 = 3;
+impl From<Message> for u32 {
+    ghost from_gives = { λ message number. number ≡ message_number message };
 
-pub const CLOSING_MISMATCH: u32 = 4;
-
-pub const SECTION_NOT_CLOSED: u32 = 5;
-
-pub const NO_CLOSING_SYMBOL: u32 = 6;
-
-pub const EMPTY_PARAMETER_LIST: u32 = 7;
-
-pub const MATH_AT_END: u32 = 8;
-
-pub const MATH_WITHOUT_PARENTHESIS: u32 = 9;
-
-pub const LEADING_SEMICOLON: u32 = 10;
-
-pub const EMPTY_ARRAY_INDEX: u32 = 11;
-
-pub const BINARY_AT_END: u32 = 12;
-
-pub const NEGATE_WITHOUT_OPERAND: u32 = 13;
-
-pub const NOT_WITHOUT_OPERAND: u32 = 14;
-
-pub const UNKNOWN_OPERATION: u32 = 15;
-
-pub const UNARY_WITHOUT_OPERAND: u32 = 16;
-
-pub const TERNARY_WITHOUT_OPERANDS: u32 = 17;
+    fn from(message: Message) -> u32 {
+        message as u32
+    }
+}
 
 // A record's words.
 #[derive(Clone, Copy)]
@@ -52,11 +50,11 @@ pub struct Record {
 
 impl Record {
     // A message with no argument.
-    pub fn new(number: u32, start: u32, end: u32) -> Self
-        ensures { result ≡ unnamed number start end }
+    pub fn new(message: Message, start: u32, end: u32) -> Self
+        ensures { result ≡ unnamed (message_number message) start end }
     {
         Self {
-            number,
+            number: message.into(),
             start,
             end,
             first: 0,
@@ -87,17 +85,21 @@ impl Record {
     }
 }
 
+impl From<Record> for [u32; fields::RECORD_WORDS] {
+    ghost from_gives = { λ r words. words ≡ words_of r };
+
+    fn from(r: Record) -> [u32; fields::RECORD_WORDS] {
+        [
+            r.number, r.start, r.end, r.first, r.second, r.third, r.fourth, r.fifth,
+        ]
+    }
+}
+
 // Writes a record to the eight words from `at` on. The entry has seen that the buffer holds two records.
 pub fn put(messages: &mut [u32], at: usize, r: Record)
     requires { at + 8 ≤ length messages.old }
     ensures { messages.new ≡ laid_at at (words_of r) messages.old }
 {
-    messages[at] = r.number;
-    messages[at + 1] = r.start;
-    messages[at + 2] = r.end;
-    messages[at + 3] = r.first;
-    messages[at + 4] = r.second;
-    messages[at + 5] = r.third;
-    messages[at + 6] = r.fourth;
-    messages[at + 7] = r.fifth;
+    let words: [u32; fields::RECORD_WORDS] = r.into();
+    messages[at..at + fields::RECORD_WORDS].copy_from_slice(&words);
 }

@@ -30,10 +30,10 @@ unfolding judged_by
 plain-says none m n e = (refl, cc)
 plain-says (some i) m n e = let z : ◌≡◌ {A = ℕ} 0 1 = cc in absurd (omega arith)
 
-unplain-says : (o : Option ℕ) (m i : ℕ) → unwritten 13 i ≡ judged_by o m → o ≡ some i
+unplain-says : (o : Option ℕ) (m n i : ℕ) → unwritten n i ≡ judged_by o m → (n ≡ 13) × (o ≡ some i)
 unfolding judged_by
-unplain-says none m i e = let z : ◌≡◌ {A = ℕ} 0 1 = cc in absurd (omega arith)
-unplain-says (some j) m i e = cc
+unplain-says none m n i e = let z : ◌≡◌ {A = ℕ} 0 1 = cc in absurd (omega arith)
+unplain-says (some j) m n i e = (cc, cc)
 
 module _ {most : ℕ} {tree : List ℕ} (o : Opened most 1 tree) where
   judged-by : judgement (trees_of tree) ≡ judged_by (unplain_at o.k o.cs) (length (written_tree o.k o.cs))
@@ -93,9 +93,6 @@ script-ones (script f later) e = ones-of later
 module _ {tree : List ℕ} {n : ℕ} (w : Writable tree n) (list : List ℕ) where
   root : Opened most_children 1 tree
   root = opened w.one.shaped (omega (arith, shaped-room w.one.shaped))
-
-  pub root-long : node_length ≤ length tree
-  root-long = root.long
 
   root-plain : (unplain_at root.k root.cs ≡ none) × (n ≡ length (written_tree root.k root.cs))
   root-plain = is_plain root w.judged
@@ -216,13 +213,13 @@ module _ {tree : List ℕ} (list : List ℕ) (whole : none ≡ tree_fault 0 oper
   top : Opened most_children 1 tree
   top = opened one.shaped (omega (arith, shaped-room one.shaped))
 
-  pub unplain-answer : (i : ℕ) → unwritten 13 i ≡ judgement (trees_of tree)
-      → (unwritten 13 i ≡ write_answered (call tree list)) × (list ≡ list_after (call tree list))
+  pub unplain-answer : (n i : ℕ) → unwritten n i ≡ judgement (trees_of tree)
+      → (unwritten n i ≡ write_answered (call tree list)) × (list ≡ list_after (call tree list))
   unfolding write_answered list_after forest_refusal first_of write_told list_in
-  unplain-answer i e =
-      let u = unplain-says _ _ i (e ∙ judged-by top) in
+  unplain-answer n i e =
+      let u = unplain-says _ _ n i (e ∙ judged-by top) in
       let refused = whole-tree (call tree list) (sym whole) in
-      (rw (refused, top.trees, u), rw (refused, top.trees, u))
+      (rw (refused, top.trees, u.0, u.1), rw (refused, top.trees, u.1))
 
   pub plain-writable : (n : ℕ) → tokens n ≡ judgement (trees_of tree) → Writable tree n
   plain-writable n e = record { one = one; judged = e }

@@ -1,5 +1,5 @@
 -- Answer 13 and the written count over a row of pending trees, each with its seat: what the loop over the nodes keeps.
-use Prim.Native.Nat.{ℕ, zero, suc, ◌+◌, ◌-◌, ◌*◌, ◌≤◌, ◌<◌}
+use Prim.Native.Nat.{ℕ, zero, suc, ◌+◌, ◌-◌, ◌*◌, ◌/◌, ◌≤◌, ◌<◌}
 use mathlib.Core.Path.{◌≡◌, refl, ap, sym, ◌∙◌}
 use mathlib.Core.Bool.{Bool, true, false, ◌||◌, ◌&&◌, not, true≢false, false≢true, or-true, or-false, and-true, and-false, not-not}
 use mathlib.Core.{List.{List, [], ◌∷◌, ◌++◌, append-nil, append_assoc}, Option.{Option, none, some}}
@@ -27,6 +27,8 @@ use Rattle.molang.proofs.Booleans as booleans
 use Rattle.write.specs.declared.plain.Seat.{Seat}
 use Rattle.write.specs.declared.plain.Seat.TheVariants.{Enclosed, UnderMathCall, LeftOfComma, RightOfQuestion, Operand}
 use Rattle.write.specs.{declared.plain.Seat.TheVariants.{UnderSemicolon}, Answers.{judgement}, Reading.{operator_at}}
+use Rattle.write.specs.{declared.reader.NodeView.{NodeView}, declared.reader.TreeReader.{TreeReader}}
+use Rattle.write.proofs.ReaderLaws.{Passes}
 use Rattle.write.specs.Seats.{form_seat, only_seat, below_seat, left_seat, right_seat, is_prefix, holds_one, plain_by, is_spared, is_paired}
 use Rattle.write.specs.{Seats.{if_true, tokens_for}, Scripts.{holds_statements, Begins, an_expression, a_script}}
 use Rattle.shape.proofs.RowLaws.{Opened, opened, shaped-room, shaped-length}
@@ -638,16 +640,13 @@ filled-all (suc i) h =
     get_or-set_other (replicate most_nodes UnderSemicolon) 0 (suc i) UnderSemicolon Enclosed (λ e. omega arith)
     ∙ get_or-replicate most_nodes (suc i) UnderSemicolon Enclosed h
 
-pub begins-early : {tree : List ℕ} {first : Seat} {trees begin : ℕ} → Begins tree first trees begin → begin ≤ 1
-begins-early (an_expression other) = omega arith
-begins-early (a_script semicolon holds) = omega arith
-
-pub judging-begins : {tree : List ℕ} {first : Seat} {trees begin : ℕ} → OneTree tree → Begins tree first trees begin
-    → Judging tree (set (replicate most_nodes UnderSemicolon) 0 first) trees 0 begin (node_length * begin)
-judging-begins {tree = tree} one (an_expression other) =
-    expression-begins tree _ one other (filled-room Enclosed) (filled-first Enclosed)
-judging-begins {tree = tree} one (a_script semicolon holds) =
-    script-begins tree _ one semicolon holds (filled-room UnderSemicolon) filled-all
+pub judging-begins : {tree : List ℕ} {first : Seat} {trees begin at : ℕ} → OneTree tree → Begins tree first trees begin
+    → at ≡ node_length * begin
+    → Judging tree (set (replicate most_nodes UnderSemicolon) 0 first) trees 0 (at / node_length) at
+judging-begins {tree = tree} one (an_expression other) here =
+    rw here (expression-begins tree _ one other (filled-room Enclosed) (filled-first Enclosed))
+judging-begins {tree = tree} one (a_script semicolon holds) here =
+    rw here (script-begins tree _ one semicolon holds (filled-room UnderSemicolon) filled-all)
 
 -- A ROOT THAT IS NOT PLAIN.
 pub root-refused : {tree : List ℕ} → OneTree tree → operator_at tree 0 ≡ Operator.semicolon → holds_statements (trees_of tree) ≡ false
@@ -660,65 +659,66 @@ root-refused one semicolon fails =
     rw (o.trees, semicolon-form plain.at_root o.k o.cs root, form)
 
 -- After the last.
-pub judging-ends : {tree : List ℕ} {waiting : List Seat} {top sum n at : ℕ} → Judging tree waiting top sum n at → length tree ≤ at
+pub judging-ends : {tree : List ℕ} {waiting : List Seat} {top sum n at : ℕ} → Judging tree waiting top sum n at → length tree < at + node_length
     → tokens sum ≡ judgement (trees_of tree)
 unfolding pending trees_of
 judging-ends {tree = tree} {waiting = waiting} {top = top} {sum = sum} {n = n} {at = at} j h =
-    let here : drop at tree ≡ [] = drop_of_length-le tree h in
+    let end : length tree ≤ at = omega (arith, shaped-length j.shaped, length-drop at tree) in
+    let here : drop at tree ≡ [] = drop_of_length-le tree end in
     let last : top ≡ 0 = omega (arith, shaped-room j.shaped, ap length here) in
     sym (judging-done sum n) ∙ (rw (here, last) at j.same)
 
 -- At a node: what stands there, and the ways on.
 module _ {tree : List ℕ} {waiting : List Seat} {top sum n at : ℕ} (one : OneTree tree) (j : Judging tree waiting top sum n at)
-    (h : at < length tree) where
+    (h : at + node_length ≤ length tree) where
   node_at : Opened most_children top (drop at tree)
   node_at = opened j.shaped (rw length-drop (omega arith))
 
-  pub judging-room : (at + node_length ≤ length tree) × (1 ≤ top) × (top + n ≤ most_nodes)
+  pub judging-room : (1 ≤ top) × (top + n ≤ most_nodes)
   judging-room =
       let room = length-drop at tree in
-      let whole = shaped-length j.shaped in
-      (omega arith, omega (arith, node_at.is_top), omega (arith, shaped-room j.shaped, one.small))
+      (omega (arith, node_at.is_top), omega (arith, shaped-room j.shaped, one.small))
 
--- A turn of the loop: what stands at the node, as it was read.
-pub record Turn (tree : List ℕ) (waiting : List Seat) (top sum n at op children first after : ℕ) (p : Seat) : Type 0 where
+-- A turn of the loop: a node was passed, whose seat is on top of the stack.
+pub record Turn (tree : List ℕ) (waiting : List Seat) (top sum at : ℕ) (v : NodeView) (new : TreeReader) (p : Seat) : Type 0 where
   pub one : OneTree tree
-  pub inv : Judging tree waiting top sum n at
-  pub within : at < length tree
-  pub is_op : op ≡ operator_of (get_or tree at 0)
-  pub is_count : children ≡ low_of (get_or tree (at + count_index) 0)
-  pub is_first : first ≡ operator_of (get_or tree (at + node_length) 0)
-  pub is_after : after ≡ at + node_length
+  pub inv : Judging tree waiting top sum (at / node_length) at
+  pub passed : Passes tree at v new
   pub is_seat : p ≡ get_or waiting (top - 1) Enclosed
 
-module _ {tree : List ℕ} {waiting : List Seat} {top sum n at op children first after : ℕ} {p : Seat}
-    (t : Turn tree waiting top sum n at op children first after p) where
+module _ {tree : List ℕ} {waiting : List Seat} {top sum at : ℕ} {v : NodeView} {new : TreeReader} {p : Seat}
+    (t : Turn tree waiting top sum at v new p) where
   here : Opened most_children top (drop at tree)
-  here = node_at t.one t.inv t.within
+  here = node_at t.one t.inv t.passed.whole
 
-  bounds : (at + node_length ≤ length tree) × (1 ≤ top) × (top + n ≤ most_nodes)
-  bounds = judging-room t.one t.inv t.within
+  pub bounds : (1 ≤ top) × (top + at / node_length ≤ most_nodes)
+  bounds = judging-room t.one t.inv t.passed.whole
 
   next : drop node_length (drop at tree) ≡ drop (at + node_length) tree
   next = drop-drop node_length at tree
 
-  here-op : here.k.op ≡ op
+  here-op : here.k.op ≡ v.op
   here-op =
-      here.op ∙ (ap operator_of (get_or-drop at tree 0 0 ∙ ap (λ (m : ℕ). get_or tree m 0) (add-zero at)) ∙ sym t.is_op)
+      here.op
+      ∙ (ap operator_of (get_or-drop at tree 0 0 ∙ ap (λ (m : ℕ). get_or tree m 0) (add-zero at))
+      ∙ sym (ap (λ (w : NodeView). w.op) t.passed.is_seen))
 
-  here-count : count here.cs ≡ children
-  here-count = here.children ∙ (ap low_of (get_or-drop at tree count_index 0) ∙ sym t.is_count)
+  here-count : count here.cs ≡ v.children
+  here-count =
+      here.children
+      ∙ (ap low_of (get_or-drop at tree count_index 0) ∙ sym (ap (λ (w : NodeView). w.children) t.passed.is_seen))
 
-  here-first : first_operator (beside here.cs here.rest) ≡ first
+  here-first : first_operator (beside here.cs here.rest) ≡ v.next
   here-first =
       ap first_operator (sym here.below)
       ∙ (first-operator here.shaped
-      ∙ (ap operator_of (get_or-drop node_length (drop at tree) 0 0 ∙ get_or-drop at tree node_length 0) ∙ sym t.is_first))
+      ∙ (ap operator_of (get_or-drop node_length (drop at tree) 0 0 ∙ get_or-drop at tree node_length 0)
+      ∙ sym (ap (λ (w : NodeView). w.next) t.passed.is_seen)))
 
-  here-plain : plain_form (form_seat p) here.k here.cs ≡ plain_by p op children first
+  here-plain : plain_form (form_seat p) here.k here.cs ≡ plain_by p v.op v.children v.next
   here-plain = plain_by_lem p here.k here.cs here.rest ∙ rw (here-op, here-count, here-first)
 
-  still : judging (p ∷ pending waiting (top - 1)) sum n (node here.k here.cs here.rest) ≡ judgement (trees_of tree)
+  still : judging (p ∷ pending waiting (top - 1)) sum (at / node_length) (node here.k here.cs here.rest) ≡ judgement (trees_of tree)
   unfolding pending
   still =
       let left : top ≡ suc (top - 1) = omega (arith, here.is_top) in
@@ -727,51 +727,49 @@ module _ {tree : List ℕ} {waiting : List Seat} {top sum n at op children first
       in
       rw (seats, here.trees) at t.inv.same
 
-  -- The words that are left fall.
-  pub falls : length tree - after < length tree - at
-  falls = omega (arith, t.is_after, t.within)
-
-  pub judging-refused : plain_by p op children first ≡ false → unwritten 13 n ≡ judgement (trees_of tree)
+  pub judging-refused : plain_by p v.op v.children v.next ≡ false → unwritten 13 (v.at / node_length) ≡ judgement (trees_of tree)
   judging-refused e =
-      sym (judging-unplain p (pending waiting (top - 1)) sum n here.k here.cs here.rest (here-plain ∙ e)) ∙ still
+      rw (ap (λ (w : NodeView). w.at) t.passed.is_seen)
+      (sym (judging-unplain p (pending waiting (top - 1)) sum (at / node_length) here.k here.cs here.rest (here-plain ∙ e)) ∙ still)
 
-  later-shaped : {m : ℕ} → Shaped most_children m (drop node_length (drop at tree)) → m ≡ children + (top - 1)
-      → Shaped most_children (children + (top - 1)) (drop node_length (drop at tree))
+  later-shaped : {m : ℕ} → Shaped most_children m (drop node_length (drop at tree)) → m ≡ v.children + (top - 1)
+      → Shaped most_children (v.children + (top - 1)) (drop node_length (drop at tree))
   later-shaped s e = rw e at s
 
   -- The state after a plain node whose children stand at these seats.
-  passed : {waiting' : List Seat} {top' : ℕ} (qs : List Seat) → plain_by p op children first ≡ true → Goes p here.k qs here.cs
+  passed : {waiting' : List Seat} {top' : ℕ} (qs : List Seat) → plain_by p v.op v.children v.next ≡ true → Goes p here.k qs here.cs
       → length waiting' ≡ most_nodes
-      → top' ≡ children + (top - 1)
+      → top' ≡ v.children + (top - 1)
       → pending waiting' top' ≡ qs ++ pending waiting (top - 1)
-      → Judging tree waiting' top' (sum + tokens_for p op children) (n + 1) after
+      → Judging tree waiting' top' (sum + tokens_for p v.op v.children) (new.at / node_length) new.at
   passed {waiting' = waiting'} qs plain goes room height seats =
-      let on = judged-on p (pending waiting (top - 1)) qs sum n here.k here.cs here.rest (here-plain ∙ plain) goes.0
+      let on = judged-on p (pending waiting (top - 1)) qs sum (at / node_length) here.k here.cs here.rest (here-plain ∙ plain) goes.0
       goes.1 in
+      let number : (at + node_length) / node_length ≡ suc (at / node_length) = omega arith in
       record {
-        within = omega (arith, bounds.0, t.is_after);
-        stands = omega (arith, t.inv.stands, t.is_after);
-        shaped = rw (height, t.is_after, ← next) (later-shaped here.shaped (omega (arith, here.is_top, here.children, here-count)));
-        few = omega (arith, few-tokens p op children);
+        within = omega (arith, t.passed.whole, t.passed.behind);
+        stands = omega (arith, t.inv.stands, t.passed.behind);
+        shaped = rw (height, t.passed.behind, ← next) (later-shaped here.shaped (omega (arith, here.is_top, here.children, here-count)));
+        few = omega (arith, t.inv.few, t.passed.behind, few-tokens p v.op v.children);
         room = room;
-        same = rw (seats, t.is_after, ← next, here.below, add-one) (rw (here-op, here-count) at (sym on) ∙ still);
+        same = rw (seats, t.passed.behind, number, ← next, here.below) (rw (here-op, here-count) at (sym on) ∙ still);
       }
 
-  pub judging-none : plain_by p op children first ≡ true → (children ≡ 1 → ⊥) → (children ≡ 2 → ⊥)
-      → Judging tree waiting (top - 1) (sum + tokens_for p op children) (n + 1) after
+  pub judging-none : plain_by p v.op v.children v.next ≡ true → (v.children ≡ 1 → ⊥) → (v.children ≡ 2 → ⊥)
+      → Judging tree waiting (top - 1) (sum + tokens_for p v.op v.children) (new.at / node_length) new.at
   judging-none plain a b =
-      let zero-children = plain-few p op children first plain a b in
+      let zero-children = plain-few p v.op v.children v.next plain a b in
       passed [] plain (on_none p here.k here.cs (here-plain ∙ plain) (here-count ∙ zero-children)) t.inv.room (omega arith) refl
 
-  pub judging-one : plain_by p op children first ≡ true → children ≡ 1
-      → Judging tree (set waiting (top - 1) (below_seat op)) (top - 1 + 1) (sum + tokens_for p op children) (n + 1) after
+  pub judging-one : plain_by p v.op v.children v.next ≡ true → v.children ≡ 1
+      → Judging tree (set waiting (top - 1) (below_seat v.op)) (top - 1 + 1) (sum + tokens_for p v.op v.children) (new.at / node_length) new.at
   judging-one plain e =
-      let below : top - 1 < length waiting = omega (arith, t.inv.room, bounds.1, bounds.2) in
+      let below : top - 1 < length waiting = omega (arith, t.inv.room, bounds.0, bounds.1) in
       passed (below_seat here.k.op ∷ []) plain (on_one p here.k here.cs (here-plain ∙ plain) (here-count ∙ e))
-      (length-set waiting (top - 1) (below_seat op) ∙ t.inv.room) (omega arith)
-      (rw (add-one, here-op) (pushed waiting (top - 1) (below_seat op) below))
+      (length-set waiting (top - 1) (below_seat v.op) ∙ t.inv.room) (omega arith)
+      (rw (add-one, here-op) (pushed waiting (top - 1) (below_seat v.op) below))
 
-  pub judging-room-two : children ≡ 2 → top - 1 + 1 < most_nodes
+  pub judging-room-two : v.children ≡ 2 → top - 1 + 1 < most_nodes
   judging-room-two e =
       omega (
         arith,
@@ -784,16 +782,16 @@ module _ {tree : List ℕ} {waiting : List Seat} {top sum n at op children first
         t.one.small,
       )
 
-  pub judging-two : plain_by p op children first ≡ true → children ≡ 2
-      → Judging tree (set (set waiting (top - 1) (right_seat op)) (top - 1 + 1) (left_seat op)) (top - 1 + 2)
-      (sum + tokens_for p op children) (n + 1) after
+  pub judging-two : plain_by p v.op v.children v.next ≡ true → v.children ≡ 2
+      → Judging tree (set (set waiting (top - 1) (right_seat v.op)) (top - 1 + 1) (left_seat v.op)) (top - 1 + 2)
+      (sum + tokens_for p v.op v.children) (new.at / node_length) new.at
   judging-two plain e =
-      let bottom = set waiting (top - 1) (right_seat op) in
-      let room : length bottom ≡ most_nodes = length-set waiting (top - 1) (right_seat op) ∙ t.inv.room in
-      let left : top - 1 < length waiting = omega (arith, t.inv.room, bounds.1, bounds.2) in
+      let bottom = set waiting (top - 1) (right_seat v.op) in
+      let room : length bottom ≡ most_nodes = length-set waiting (top - 1) (right_seat v.op) ∙ t.inv.room in
+      let left : top - 1 < length waiting = omega (arith, t.inv.room, bounds.0, bounds.1) in
       let right : suc (top - 1) < length bottom = omega (arith, room, judging-room-two e) in
       let height : top - 1 + 2 ≡ suc (suc (top - 1)) = omega arith in
       passed (left_seat here.k.op ∷ right_seat here.k.op ∷ []) plain
       (on-two p here.k here.cs (here-plain ∙ plain) (here-count ∙ e))
-      (length-set bottom (top - 1 + 1) (left_seat op) ∙ room) (omega arith)
-      (rw (height, add-one, here-op, pushed bottom (suc (top - 1)) (left_seat op) right, pushed waiting (top - 1) (right_seat op) left))
+      (length-set bottom (top - 1 + 1) (left_seat v.op) ∙ room) (omega arith)
+      (rw (height, add-one, here-op, pushed bottom (suc (top - 1)) (left_seat v.op) right, pushed waiting (top - 1) (right_seat v.op) left))

@@ -1,9 +1,9 @@
 -- The laws that the proofs of several functions share.
 pub mod JudgeLaws
 pub mod SpellLaws
-pub mod CaseLaws
 pub mod StepLaws
 pub mod SpineLaws
 pub mod EntryLaws
+pub mod ReaderLaws
 pub mod RootLaws
 pub mod StatementLaws

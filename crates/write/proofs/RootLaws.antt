@@ -1,13 +1,14 @@
 -- The root of a script: what the loop over its children keeps.
 use Prim.Native.Nat.{ℕ, zero, suc, ◌+◌, ◌-◌, ◌*◌, ◌≤◌, ◌<◌}
-use mathlib.Core.{Path.{◌≡◌, refl, ap, sym, ◌∙◌}, Bool.{true, false}, List.{List, []}}
+use mathlib.Core.{Path.{◌≡◌, refl, ap, sym, ◌∙◌}, Bool.{true, false}, List.{List}}
 use native.Mathlib.{Omega.{arith}, Nat.{add-zero, add-suc}}
 use lib.{Dec.{eqb, ltb}, ListN.{length, get_or, drop, drop_of_length-le, length-drop}, Seq.{get_or-drop, drop-drop}}
-use borrow.Author.Tests.{eq-eqb, ne_eqb, lt-ltb, le-ltb}
+use borrow.Author.Tests.{eq-eqb, ne_eqb, eqb-true, eqb-false, lt-ltb, le-ltb}
 use Rattle.molang.specs.Operator
 use Rattle.molang.{specs.Forest.{Forest, nil, node, count, size}, specs.Plain.{all_semicolons, semicolon_form}, specs.Words.{low_of}}
 use Rattle.molang.{specs.WriteEntry.{other_trees, trees_of}, proofs.Words.{beside, other-beside}}
 use Rattle.molang.specs.Plain as plain
+use Rattle.molang.proofs.Booleans as booleans
 use Rattle.words.specs.{Fields.{operator_of}, Tokens.{node_length}}
 use Rattle.shape.specs.Shaped.{count_index, Shaped, most_children, OneTree}
 use Rattle.shape.proofs.RowLaws.{Opened, opened, shaped-room, shaped-count, shaped-length, no_kids}
@@ -81,12 +82,9 @@ module _ {tree : List ℕ} (one : OneTree tree) where
       in
       rw root.trees (all_hold root.cs (length tree) words (ap all_semicolons (sym row) ∙ e))
 
-  module _ {due at : ℕ} (h : Holding tree due at) (taken : at < length tree) where
+  module _ {due at : ℕ} (h : Holding tree due at) (whole : at + node_length ≤ length tree) where
     here : Opened most_children (h.others + due) (drop at tree)
     here = opened h.shaped (rw length-drop (omega arith))
-
-    pub holding-room : at + node_length ≤ length tree
-    holding-room = omega (arith, here.long, length-drop at tree)
 
     next : drop node_length (drop at tree) ≡ drop (at + node_length) tree
     next = drop-drop node_length at tree
@@ -99,9 +97,6 @@ module _ {tree : List ℕ} (one : OneTree tree) where
       is_count : v.children ≡ low_of (get_or tree (at + count_index) 0)
       is_count = ap (λ (w : NodeView). w.children) seen
 
-      is_after : v.after ≡ at + node_length
-      is_after = ap (λ (w : NodeView). w.after) seen
-
       here-op : here.k.op ≡ v.op
       here-op =
           here.op ∙ (ap operator_of (get_or-drop at tree 0 0 ∙ ap (λ (m : ℕ). get_or tree m 0) (add-zero at)) ∙ sym is_op)
@@ -112,9 +107,6 @@ module _ {tree : List ℕ} (one : OneTree tree) where
       here-count : count here.cs ≡ v.children
       here-count = here.children ∙ here-low
 
-      pub holding-falls : length tree - v.after < length tree - at
-      holding-falls = omega (arith, is_after, taken)
-
       -- A child that is no semicolon.
       pub holding-refused : due ≡ 0 → (v.op ≡ Operator.semicolon → ⊥) → false ≡ holds_statements (trees_of tree)
       unfolding other_trees all_semicolons
@@ -123,10 +115,11 @@ module _ {tree : List ℕ} (one : OneTree tree) where
           root-refuses (sym h.same ∙ rw (none, here.trees, no))
 
       -- A child that is one.
-      pub holding-child : due ≡ 0 → v.op ≡ Operator.semicolon → Holding tree v.children v.after
+      holding-child : due ≡ 0 → v.op ≡ Operator.semicolon → Holding tree (due - 1 + v.children) (at + node_length)
       unfolding other_trees all_semicolons
       holding-child none semicolon =
           let yes : eqb here.k.op Operator.semicolon ≡ true = rw here-op (eq-eqb v.op Operator.semicolon semicolon) in
+          let calls : due - 1 + v.children ≡ v.children = omega (arith, none) in
           let trees : low_of (get_or (drop at tree) count_index 0) + here.others ≡ here.others + v.children = omega (arith, here-low) in
           let shaped : Shaped most_children (here.others + v.children) (drop node_length (drop at tree)) = rw trees at here.shaped in
           let still : all_semicolons here.rest ≡ all_semicolons (trees_of (drop node_length tree)) =
@@ -134,14 +127,15 @@ module _ {tree : List ℕ} (one : OneTree tree) where
           in
           record {
             others = here.others;
-            behind = omega (arith, h.behind, is_after);
-            within = omega (arith, holding-room, is_after);
-            shaped = rw (is_after, ← next) shaped;
-            same = rw (is_after, ← next, here.below, ← here-count, other-beside here.cs here.rest) still;
+            behind = omega (arith, h.behind);
+            within = whole;
+            shaped = rw (calls, ← next) shaped;
+            same = rw (calls, ← next, here.below, ← here-count, other-beside here.cs here.rest) still;
           }
 
-      pub holding-few : (due ≡ 0 → ⊥) → due - 1 + v.children ≤ length tree
-      holding-few some =
+      -- All that is called for is still to come.
+      pub holding-few : due - 1 + v.children ≤ length tree
+      holding-few =
           omega (
             arith,
             shaped-room here.shaped,
@@ -152,7 +146,7 @@ module _ {tree : List ℕ} (one : OneTree tree) where
           )
 
       -- A node below the child that came last.
-      pub holding-below : (due ≡ 0 → ⊥) → Holding tree (due - 1 + v.children) v.after
+      holding-below : (due ≡ 0 → ⊥) → Holding tree (due - 1 + v.children) (at + node_length)
       unfolding other_trees
       holding-below some =
           let left : due ≡ suc (due - 1) = positive due some in
@@ -167,23 +161,26 @@ module _ {tree : List ℕ} (one : OneTree tree) where
           in
           record {
             others = h.others;
-            behind = omega (arith, h.behind, is_after);
-            within = omega (arith, holding-room, is_after);
-            shaped = rw (is_after, ← next) shaped;
-            same = rw (is_after, ← next, here.below, ← here-count, other-behind here.cs here.rest (due - 1)) still;
+            behind = omega (arith, h.behind);
+            within = whole;
+            shaped = rw (← next) shaped;
+            same = rw (← next, here.below, ← here-count, other-behind here.cs here.rest (due - 1)) still;
           }
         where
           positive : (n : ℕ) → (n ≡ 0 → ⊥) → n ≡ suc (n - 1)
           positive zero a = absurd (a refl)
           positive (suc n) a = omega arith
 
+      pub holding-on : (due ≡ 0 → v.op ≡ Operator.semicolon) → Holding tree (due - 1 + v.children) (at + node_length)
+      holding-on semicolon = booleans.either (eqb due 0) (λ e. holding-child (eqb-true due 0 e) (semicolon (eqb-true due 0 e))) (λ e. holding-below (eqb-false due 0 e))
+
   -- After the last.
-  pub holding-ends : {due at : ℕ} → Holding tree due at → length tree ≤ at → ltb node_length at ≡ holds_statements (trees_of tree)
+  pub holding-ends : {due at : ℕ} → Holding tree due at → length tree < at + node_length
+      → ltb node_length (length tree) ≡ holds_statements (trees_of tree)
   unfolding trees_of other_trees all_semicolons
   holding-ends {due = due} {at = at} h left =
-      let last : drop at tree ≡ [] = drop_of_length-le tree left in
-      let end : at ≡ length tree = omega (arith, h.within) in
-      rw end (root-holds (sym h.same ∙ rw last (none_other due)))
+      let end : length tree ≤ at = omega (arith, shaped-length h.shaped, length-drop at tree) in
+      root-holds (sym h.same ∙ rw (drop_of_length-le tree end) (none_other due))
     where
       none_other : (n : ℕ) → all_semicolons (other_trees n nil) ≡ true
       none_other zero = refl

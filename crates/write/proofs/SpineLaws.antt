@@ -1,19 +1,18 @@
 -- The first children of a tree, one below the other: where they stand, and what is written of them from the last one up.
 use Prim.Native.Nat.{ℕ, zero, suc, ◌+◌, ◌-◌, ◌*◌, ◌%◌, ◌^◌, ◌≤◌, ◌<◌, min, max}
-use mathlib.Core.{Path.{◌≡◌, refl, ap, ap₂, sym, ◌∙◌}, Bool.{Bool, true, false, not}, List.{List, ◌++◌, append_assoc}}
+use mathlib.Core.{Path.{◌≡◌, refl, ap, ap₂, sym, ◌∙◌}, Bool.{Bool, true, false}, List.{List, ◌++◌, append_assoc}}
 use native.Mathlib.{Omega.{arith}, Nat.{add-zero}}
 use lib.{Dec.{eqb}, ListN.{length, take, drop, get_or, length-drop, length-append}, Seq.{get_or-drop, drop-drop}}
-use Rattle.molang.specs.{Words.{low_of}, WriteEntry.{trees_of}, Operator.{is_bracket, is_math_call}}
+use Rattle.molang.specs.{Words.{low_of}, WriteEntry.{trees_of}}
 use Rattle.words.specs.{Tokens.{node_length}, Fields.{operator_of}}
 use Rattle.words.specs.{Extents.{wider, first_extent}, declared.extent.Extent.{Extent}, Records.{laid_at}}
 use Rattle.words.proofs.{TreeLaws.{Fits, from_nothing, first_fits, extent-taken}, RecordLaws.{laid-before}}
 use Rattle.shape.{specs.Shaped.{count_index, first_five, Shaped}, proofs.RowLaws.{Opened, opened, shaped-room}}
 use Rattle.write.specs.declared.plain.Seat.{Seat}
-use Rattle.write.specs.Spelling.{pair_opener, pair_closer, closer_words, seen, seen_with, first_size, node_written, operand_written}
+use Rattle.write.specs.Spelling.{pair_opener, pair_closer, closer_words, nothing_seen, seen_with, first_size, node_written, operand_written}
 use Rattle.write.specs.{Spelling.{node_tokens, operand_of, filled_words, Room}, Reading.{operator_at, children_at}}
-use Rattle.write.specs.declared.plain.Seat.TheVariants.{Enclosed, UnderMathCall, LeftOfComma, Operand}
-use Rattle.write.specs.Seats.{is_paired, is_spared, if_true, left_seat, right_seat, only_seat}
-use Rattle.write.specs.Spine.{first_seat, has_pair, front_of, front_at, with_pair, span_taken, Opens, Spine, the_root, first_child}
+use Rattle.write.specs.Seats.{is_paired, if_true, first_seat, left_seat, right_seat, only_seat}
+use Rattle.write.specs.Spine.{has_pair, front_of, front_at, with_pair, span_taken, Opens, Spine, the_root, first_child}
 use Rattle.write.proofs.StepLaws.{Puts, Writes, puts-more, puts-length, pair-writes, part_length, tail, tail-part}
 use Rattle.write.proofs.StepLaws.{one_left, nodes_left, fewer-nodes}
 use Rattle.write.proofs.SpellLaws.{OneBelow, one_below, TwoBelow, two-below, only_words, left_words, left_size, right_part, right_words}
@@ -26,25 +25,6 @@ first-of-two op n e = unfold first_seat in rw (eq-eqb n 2 e, first_seat)
 
 pub first-of-one : (op n : ℕ) → (n ≡ 2 → ⊥) → first_seat op n ≡ only_seat op
 first-of-one op n e = unfold first_seat in rw (ne_eqb n 2 e, first_seat)
-
--- A child that is neither a leaf nor a bracket gets a pair unless its seat spares it.
-pub first-paired : (p : Seat) (f n : ℕ) → (n ≡ 0 → ⊥) → (f ≡ 4 → ⊥) → is_paired p f n ≡ not (is_spared p f)
-first-paired p f n a b = unfold is_paired is_bracket in rw (ne_eqb n 0 a, ne_eqb f 4 b)
-
-pub comma-seat : (op : ℕ) → op ≡ 75 → left_seat op ≡ LeftOfComma
-comma-seat op e = unfold left_seat in rw (eq-eqb op 75 e, left_seat)
-
-pub other-seat : (op : ℕ) → (op ≡ 75 → ⊥) → left_seat op ≡ Operand
-other-seat op e = unfold left_seat in rw (ne_eqb op 75 e, left_seat)
-
-pub only-spares : (op f : ℕ) → is_spared (only_seat op) f ≡ eqb op 4
-unfolding only_seat is_bracket
-only-spares op f = go (eqb op 4) (is_math_call op)
-  where
-    go : (b m : Bool) → is_spared (elim b [ true ↦ Enclosed | false ↦ elim m [ true ↦ UnderMathCall | false ↦ Operand ] ]) f ≡ b
-    go true m = refl
-    go false true = refl
-    go false false = refl
 
 if-few : (b : Bool) → if_true b 5 ≤ 5
 if-few true = omega arith
@@ -215,26 +195,22 @@ spine-up {W = W} (first_child {at = at} {front = front} t nz) h =
     record { above = front; spine = rw e t; some = rw e nz; is_front = rw e refl; is_node = omega arith }
 
 -- The root has nothing before it.
-pub spine-root : {W : List ℕ} {node front : ℕ} → Spine W node front → (0 < node → ⊥) → (node ≡ 0) × (front ≡ 0)
+pub spine-root : {W : List ℕ} {node front : ℕ} → Spine W node front → node ≤ 0 → (node ≡ 0) × (front ≡ 0)
 spine-root the_root h = (refl, refl)
-spine-root (first_child t nz) h = absurd (h (omega arith))
-
--- The extent that holds nothing.
-abbrev pub nothing : Extent
-nothing = seen (2 ^ 29 - 1) 0
+spine-root (first_child t nz) h = absurd (omega (arith, h))
 
 -- THE LOOP'S INVARIANT, on the way up: the tree of the node that was come to is written from `place` on, its words end at `next`, and its
 -- extent is known.
-pub record Climbing (W L : List ℕ) (from node place next : ℕ) (list : List ℕ) (to low high : ℕ) : Type 0 where
+pub record Climbing (W L : List ℕ) (from node place next : ℕ) (list : List ℕ) (to : ℕ) (seen : Extent) : Type 0 where
   pub front : ℕ
   pub spine : Spine W node front
   pub is_place : place ≡ from + front
   pub puts : Puts (node_written (drop node W)) L place list to
   pub is_next : next ≡ node + node_length * first_size (trees_of (drop node W))
-  pub spans : seen low high ≡ seen_with nothing (drop node W)
+  pub spans : seen ≡ seen_with nothing_seen (drop node W)
 
 -- A span is taken in before a tree or after it.
-exchanged : (e : Extent) (b c : ℕ) → Fits e → wider e b c ≡ wider (wider nothing b c) e.start e.end
+exchanged : (e : Extent) (b c : ℕ) → Fits e → wider e b c ≡ wider (wider nothing_seen b c) e.start e.end
 unfolding wider low_of
 exchanged e b c h =
     let extent : ℕ → ℕ → Extent = λ s t. record { start = s; end = t } in
@@ -242,30 +218,30 @@ exchanged e b c h =
     let ends : max e.end (c % 2 ^ 29) ≡ max (max 0 (c % 2 ^ 29)) (e.end % 2 ^ 29) = omega (arith, h.1) in
     ap₂ extent starts ends
 
-taken-after : (X : List ℕ) (b c : ℕ) → node_length ≤ length X → wider (seen_with nothing X) b c ≡ seen_with (wider nothing b c) X
+taken-after : (X : List ℕ) (b c : ℕ) → node_length ≤ length X → wider (seen_with nothing_seen X) b c ≡ seen_with (wider nothing_seen b c) X
 taken-after X b c long =
     ap (λ (e : Extent). wider e b c) (from_nothing X)
-    ∙ (exchanged (first_extent (trees_of X)) b c (first_fits X) ∙ extent-taken X (wider nothing b c) long)
+    ∙ (exchanged (first_extent (trees_of X)) b c (first_fits X) ∙ extent-taken X (wider nothing_seen b c) long)
 
 -- An operand in its pair, if it gets one.
-paired-step : {X L list list1 : List ℕ} {q to to1 low high : ℕ} (p : Seat) (r : Room (operand_of p) X L q) (b : Bool)
+paired-step : {X L list list1 : List ℕ} {q to to1 : ℕ} {seen : Extent} (p : Seat) (r : Room (operand_of p) X L q) (b : Bool)
     → is_paired p (operator_of (get_or X 0 0)) (low_of (get_or X count_index 0)) ≡ b
     → Puts (node_written X) L (q + if_true b 5) list to
-    → seen low high ≡ seen_with nothing X
-    → list1 ≡ with_pair b low high (q + if_true b 5) to list
+    → seen ≡ seen_with nothing_seen X
+    → list1 ≡ with_pair b seen (q + if_true b 5) to list
     → to1 ≡ to + if_true b 5
     → Puts (operand_written p X) L q list1 to1
-paired-step {X = X} {L = L} {list = list} {list1 = list1} {q = q} {to = to} {to1 = to1} {low = low} {high = high} p r true e w sp laid on =
+paired-step {X = X} {L = L} {list = list} {list1 = list1} {q = q} {to = to} {to1 = to1} {seen = seen} p r true e w sp laid on =
     let back : q + 5 - 5 ≡ q = omega arith in
-    (pair-writes p r e (filled_words X) list to (refl, w) low high sp list1 to1
-    (laid ∙ ap (λ (n : ℕ). laid_at to (pair_closer high) (laid_at n (pair_opener low high) list)) back) on).1
+    (pair-writes p r e (filled_words X) list to (refl, w) seen sp list1 to1
+    (laid ∙ ap (λ (n : ℕ). laid_at to (pair_closer seen.end) (laid_at n (pair_opener seen.start seen.end) list)) back) on).1
 paired-step {X = X} {L = L} {list1 = list1} {q = q} {to = to} {to1 = to1} p r false e w sp laid on =
     let same : q + 0 ≡ q = omega arith in
     rw (unpaired-words (opens-with (record { others = r.others; shaped = r.shaped })) p e)
     (laid ∙ (w.0 ∙ ap (λ (n : ℕ). laid_at n (node_written X) L) same), omega (arith, on, w.1))
 
-module _ {W L : List ℕ} {from node place next : ℕ} {list : List ℕ} {to low high : ℕ} (s : Opens W)
-    (fits : from + length (node_written W) ≤ length L) (c : Climbing W L from node place next list to low high) where
+module _ {W L : List ℕ} {from node place next : ℕ} {list : List ℕ} {to : ℕ} {seen : Extent} (s : Opens W)
+    (fits : from + length (node_written W) ≤ length L) (c : Climbing W L from node place next list to seen) where
   -- There is room for the tree that is written.
   climbing-room : place + length (node_written (drop node W)) ≤ length L
   climbing-room = omega (arith, spine-room s c.spine, c.is_place)
@@ -274,19 +250,16 @@ module _ {W L : List ℕ} {from node place next : ℕ} {list : List ℕ} {to low
   climbing-length = puts-length place (node_written (drop node W)) L climbing-room c.puts
 
 -- A turn of the loop: the tree that was come to is not the root.
-pub record Turn (W L : List ℕ) (from node place next : ℕ) (list : List ℕ) (to low high : ℕ) : Type 0 where
+pub record Turn (W L : List ℕ) (from node place next : ℕ) (list : List ℕ) (to : ℕ) (seen : Extent) : Type 0 where
   pub opens : Opens W
   pub fits : from + length (node_written W) ≤ length L
-  pub climbed : Climbing W L from node place next list to low high
+  pub climbed : Climbing W L from node place next list to seen
   pub below : 0 < node
 
-module _ {W L : List ℕ} {from node place next : ℕ} {list : List ℕ} {to low high : ℕ}
-    (v : Turn W L from node place next list to low high) where
+module _ {W L : List ℕ} {from node place next : ℕ} {list : List ℕ} {to : ℕ} {seen : Extent}
+    (v : Turn W L from node place next list to seen) where
   up : Up W node v.climbed.front
   up = spine-up v.climbed.spine v.below
-
-  pub up-within : node_length ≤ node
-  up-within = omega (arith, up.is_node)
 
   pub up-longer : node - node_length + node_length + node_length ≤ length W
   up-longer = spine-longer v.opens up.spine up.some
@@ -377,7 +350,7 @@ module _ {W L : List ℕ} {from node place next : ℕ} {list : List ℕ} {to low
   child-put : Puts (node_written (drop node_length (drop (node - node_length) W))) L place list to
   child-put = rw child-words at v.climbed.puts
 
-  child-spans : seen low high ≡ seen_with nothing (drop node_length (drop (node - node_length) W))
+  child-spans : seen ≡ seen_with nothing_seen (drop node_length (drop (node - node_length) W))
   child-spans = rw child-words at v.climbed.spans
 
   -- What the pair of the first child asks.
@@ -398,7 +371,7 @@ module _ {W L : List ℕ} {from node place next : ℕ} {list : List ℕ} {to low
         omega (arith, five, pair-within, operand-fits, all, front, back, climbing-length v.opens v.fits v.climbed, child-put.1),
       )
 
-  module _ {list1 : List ℕ} {to1 : ℕ} (laid1 : list1 ≡ with_pair (has_pair W (node - node_length)) low high place to list)
+  module _ {list1 : List ℕ} {to1 : ℕ} (laid1 : list1 ≡ with_pair (has_pair W (node - node_length)) seen place to list)
       (on1 : to1 ≡ to + if_true (has_pair W (node - node_length)) 5) where
     pair_put : Puts (operand_written (seat_in (drop (node - node_length) W)) (drop node_length (drop (node - node_length) W))) L begins list1
         to1
@@ -407,7 +380,7 @@ module _ {W L : List ℕ} {from node place next : ℕ} {list : List ℕ} {to low
         let there : place - if_true (has_pair W (node - node_length)) 5 + if_true (has_pair W (node - node_length)) 5 ≡ place =
         omega (arith, pair-within)
         in
-        paired-step {list = list} {to = to} {low = low} {high = high} (seat_in (drop (node - node_length) W)) operand-room (has_pair W
+        paired-step {list = list} {to = to} {seen = seen} (seat_in (drop (node - node_length) W)) operand-room (has_pair W
         (node - node_length)) (sym (pair-here W (node - node_length)))
         (rw there child-put) child-spans (rw there laid1) on1
 
@@ -486,8 +459,8 @@ module _ {W L : List ℕ} {from node place next : ℕ} {list : List ℕ} {to low
             (puts-more q (first_five X ++ only_words X) (closer_words X) L
             (rw (append_assoc (first_five X) (only_words X) (closer_words X)) one-fits) token-put w3)
 
-        pub climbed-one : {low1 high1 : ℕ} → seen low1 high1 ≡ span_taken (seen low high) (drop (node - node_length) W)
-            → Climbing W L from (node - node_length) (place - front_at W (node - node_length)) next list3 to3 low1 high1
+        pub climbed-one : {seen1 : Extent} → seen1 ≡ span_taken seen (drop (node - node_length) W)
+            → Climbing W L from (node - node_length) (place - front_at W (node - node_length)) next list3 to3 seen1
         climbed-one own =
             let X = drop (node - node_length) W in
             let same : node_length * first_size (trees_of (drop node W)) ≡ node_length * first_size (trees_of (drop node_length X)) = rw
@@ -503,7 +476,7 @@ module _ {W L : List ℕ} {from node place next : ℕ} {list : List ℕ} {to low
                   own
                   ∙ (ap (λ (e : Extent). wider e (get_or X 1 0) (get_or X 2 0)) child-spans
                   ∙ (taken-after (drop node_length X) (get_or X 1 0) (get_or X 2 0) (opens-with first-here).long ∙ below_one.spans
-                  nothing));
+                  nothing_seen));
             }
 
     -- TWO CHILDREN: the token behind the left one, then the right one.
@@ -615,21 +588,9 @@ module _ {W L : List ℕ} {from node place next : ℕ} {list : List ℕ} {to low
               in
               omega (arith, part_length shape w3.0, same)
 
-          pub next-ends : next + length m ≤ length W
-          next-ends =
-              omega (
-                arith,
-                is-next,
-                right-part,
-                below_two.fills,
-                first-within up-opens.shaped,
-                length-drop (node - node_length) W,
-                (opens-with up-opens).long,
-              )
-
-          pub climbed-two : {low1 high1 low2 high2 : ℕ} → seen low1 high1 ≡ span_taken (seen low high) (drop (node - node_length) W)
-              → seen low2 high2 ≡ seen_with (seen low1 high1) (tail next W)
-              → Climbing W L from (node - node_length) (place - front_at W (node - node_length)) (next + length m) list3 to3 low2 high2
+          pub climbed-two : {seen1 seen2 : Extent} → seen1 ≡ span_taken seen (drop (node - node_length) W)
+              → seen2 ≡ seen_with seen1 (tail next W)
+              → Climbing W L from (node - node_length) (place - front_at W (node - node_length)) (next + length m) list3 to3 seen2
           climbed-two own right =
               let X = drop (node - node_length) W in
               let q1 = place - front_at W (node - node_length) in
@@ -651,8 +612,8 @@ module _ {W L : List ℕ} {from node place next : ℕ} {list : List ℕ} {to low
                 spans =
                     right
                     ∙ (ap (λ (e : Extent). seen_with e (tail next W)) first
-                    ∙ (ap (λ (Y : List ℕ). seen_with (seen_with (wider nothing (get_or X 1 0) (get_or X 2 0)) (drop node_length X)) Y) there
-                    ∙ below_two.spans nothing));
+                    ∙ (ap (λ (Y : List ℕ). seen_with (seen_with (wider nothing_seen (get_or X 1 0) (get_or X 2 0)) (drop node_length X)) Y) there
+                    ∙ below_two.spans nothing_seen));
               }
 
 -- What is read of the part of the words from a node on.
@@ -681,16 +642,11 @@ module _ {W L : List ℕ} {from node front : ℕ} (r : Room node_tokens W L from
         children-here W node ∙ e,
       )
 
-  pub leaf-ends : (l : List ℕ) → l ≡ filled_words (tail node W) → node + length l ≤ length W
-  leaf-ends l e =
-      let o = spine-opens room-opens t in
-      omega (arith, part_length o.shaped (rw (tail-part node W) at e), first-within o.shaped, length-drop node W, leaf-within)
-
-  pub climbing-begins : (l list : List ℕ) (to low high : ℕ)
+  pub climbing-begins : (l list : List ℕ) (to : ℕ) (seen : Extent)
       → Writes (node_written (tail node W)) (tail node W) L (from + front) l list to
-      → seen low high ≡ seen_with nothing (tail node W)
-      → Climbing W L from node (from + front) (node + length l) list to low high
-  climbing-begins l list to low high w sp =
+      → seen ≡ seen_with nothing_seen (tail node W)
+      → Climbing W L from node (from + front) (node + length l) list to seen
+  climbing-begins l list to seen w sp =
       let o = spine-opens room-opens t in
       let v = rw (tail-part node W) at w in
       record {
@@ -703,8 +659,8 @@ module _ {W L : List ℕ} {from node front : ℕ} (r : Room node_tokens W L from
       }
 
 -- At the root it ends: all is written.
-module _ {W L : List ℕ} {from node place next : ℕ} {list : List ℕ} {to low high : ℕ} (r : Room node_tokens W L from)
-    (c : Climbing W L from node place next list to low high) (h : 0 < node → ⊥) where
+module _ {W L : List ℕ} {from node place next : ℕ} {list : List ℕ} {to : ℕ} {seen : Extent} (r : Room node_tokens W L from)
+    (c : Climbing W L from node place next list to seen) (h : node ≤ 0) where
   climbed-next : next ≡ node_length * first_size (trees_of W)
   climbed-next =
       let e = spine-root c.spine h in
@@ -720,10 +676,10 @@ module _ {W L : List ℕ} {from node place next : ℕ} {list : List ℕ} {to low
       let here : place ≡ from = omega (arith, c.is_place, e.1) in
       (ap (λ (n : ℕ). take n W) climbed-next, rw (e.0, here) at c.puts)
 
-  pub climbed-spans : (e e1 : Extent) → e1 ≡ wider e low high → e1 ≡ seen_with e W
+  pub climbed-spans : (e e1 : Extent) → e1 ≡ wider e seen.start seen.end → e1 ≡ seen_with e W
   climbed-spans e e1 w =
       let root = spine-root c.spine h in
-      let covered : seen low high ≡ first_extent (trees_of W) = rw root.0 at c.spans ∙ from_nothing W in
+      let covered : seen ≡ first_extent (trees_of W) = rw root.0 at c.spans ∙ from_nothing W in
       w
       ∙ (ap (λ (x : Extent). wider e x.start x.end) covered
       ∙ extent-taken W e (opens-with (record { others = r.others; shaped = r.shaped })).long)

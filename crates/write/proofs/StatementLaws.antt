@@ -126,10 +126,6 @@ module _ {W L : List ℕ} {to : ℕ} (r : StatementRoom W L to) where
           puts-more to (node_written (drop node_length W)) (semicolon_words (drop node_length W)) L all_room held-puts
           (rw (tail-part node_length W) at w2)
 
-      pub statement-list : length L2 ≡ length L
-      statement-list =
-          puts-length to (node_written (drop node_length W) ++ semicolon_words (drop node_length W)) L all_room statement-puts
-
       pub statement-writes : (node_length + length l ≡ node_length * first_size (trees_of W)) × Puts (statement_written W) L to L2 to2
       statement-writes = (statement-end, rw statement-words statement-puts)
 

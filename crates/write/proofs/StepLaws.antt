@@ -1,5 +1,5 @@
 -- The steps of writing a node or an operand: before each call there is room, and after the last one all is written.
-use Prim.Native.Nat.{ℕ, zero, suc, ◌+◌, ◌-◌, ◌*◌, ◌^◌, ◌≤◌, ◌/◌, ◌<◌}
+use Prim.Native.Nat.{ℕ, zero, suc, ◌+◌, ◌-◌, ◌*◌, ◌≤◌, ◌/◌, ◌<◌}
 use mathlib.Core.{Path.{◌≡◌, refl, ap, ◌∙◌}, Bool.{true, false}, List.{List, ◌++◌, append_assoc}}
 use native.Mathlib.Omega.{arith}
 use lib.{ListN.{length, take, drop, get_or, length-append, length-drop}, Seq.{take_all, length-take-le}}
@@ -8,9 +8,10 @@ use Rattle.words.specs.{Fields.{operator_of}, Records.{laid_at}, Extents.{wider,
 use Rattle.words.specs.Tokens.{node_length}
 use Rattle.words.proofs.{RecordLaws.{laid-length, laid-laid, laid-before}, TreeLaws.{from_nothing, extent-taken}}
 use Rattle.write.specs.{declared.plain.Seat.{Seat}, Seats.{is_paired}}
-use Rattle.write.specs.Spelling.{pair_opener, pair_closer, closer_words, seen, seen_with, first_size, node_tokens, operand_of, filled_words}
+use Rattle.write.specs.Spelling.{pair_opener, pair_closer, closer_words, nothing_seen, seen_with, first_size, node_tokens, operand_of, filled_words}
 use Rattle.write.specs.Spelling.{node_written, operand_written, Room}
 use Rattle.shape.{specs.Shaped.{count_index, first_five, Shaped}, proofs.RowLaws.{Opened, opened, shaped-room}}
+use borrow.Author.Tests.{eq-eqb}
 use Rattle.write.proofs.SpellLaws.{first-within, none_below, paired_words, unpaired-words}
 
 -- The part from a word on.
@@ -59,6 +60,10 @@ one_left (suc zero) h a b = refl
 one_left (suc (suc zero)) h a b = absurd (a refl)
 one_left (suc (suc (suc n))) h a b = absurd (omega arith)
 
+-- No leaf is in an added pair.
+pub leaf-unpaired : (p : Seat) (op children : ℕ) → children ≡ 0 → is_paired p op children ≡ false
+leaf-unpaired p op children e = unfold is_paired in rw (eq-eqb children 0 e)
+
 -- A node that is to be written.
 module _ {W L : List ℕ} {to : ℕ} (r : Room node_tokens W L to) where
   here : Opened 2 (suc r.others) W
@@ -80,10 +85,6 @@ module _ {W L : List ℕ} {to : ℕ} (r : Room node_tokens W L to) where
         let all = none-room e in
         let both = length-append (first_five W) (closer_words W) in
         omega (arith, w1.1, puts-length to (first_five W) L (omega arith) w1)
-
-    pub none-length : (L2 : List ℕ) (to2 : ℕ) → Puts (closer_words W) L1 to1 L2 to2 → length L2 ≡ length L
-    none-length L2 to2 w2 =
-        puts-length to (first_five W ++ closer_words W) L (none-room e) (puts-more to (first_five W) (closer_words W) L (none-room e) w1 w2)
 
     pub none-writes : (L2 : List ℕ) (to2 : ℕ) → Puts (closer_words W) L1 to1 L2 to2
         → Writes (node_written W) W L to (take node_length W) L2 to2
@@ -153,17 +154,17 @@ module _ {W L : List ℕ} {to : ℕ} (p : Seat) (r : Room (operand_of p) W L to)
           let back = length-append inner closes in
           (omega (arith, pair-room, inner-length), omega (arith, pair-room, inner-length, w1.1.1))
 
-      module _ (s t : ℕ) (spans : seen s t ≡ seen_with (seen (2 ^ 29 - 1) 0) W) where
-        is-covered : seen s t ≡ covered
+      module _ (seen : Extent) (spans : seen ≡ seen_with nothing_seen W) where
+        is-covered : seen ≡ covered
         is-covered = unfold covered in spans ∙ from_nothing W
 
-        pub pair-spans : (e e1 : Extent) → e1 ≡ wider e s t → e1 ≡ seen_with e W
+        pub pair-spans : (e e1 : Extent) → e1 ≡ wider e seen.start seen.end → e1 ≡ seen_with e W
         unfolding covered
         pair-spans e e1 w =
             w
             ∙ (ap (λ (x : Extent). wider e x.start x.end) is-covered ∙ extent-taken W e operand.long)
 
-        module _ (L2 : List ℕ) (to2 : ℕ) (laid : L2 ≡ laid_at to1 (pair_closer t) (laid_at to (pair_opener s t) L1)) (on : to2 ≡ to1 + 5) where
+        module _ (L2 : List ℕ) (to2 : ℕ) (laid : L2 ≡ laid_at to1 (pair_closer seen.end) (laid_at to (pair_opener seen.start seen.end) L1)) (on : to2 ≡ to1 + 5) where
           opened-puts : Puts (opens ++ inner) L to (laid_at to opens L1) to1
           unfolding inner opens
           opened-puts =
@@ -181,9 +182,6 @@ module _ {W L : List ℕ} {to : ℕ} (p : Seat) (r : Room (operand_of p) W L to)
           pair-all =
               rw (← append_assoc opens inner closes)
               (puts-more to (opens ++ inner) closes L (rw (append_assoc opens inner closes) pair-room) opened-puts closed-puts)
-
-          pub pair-length : length L2 ≡ length L
-          pair-length = puts-length to (opens ++ (inner ++ closes)) L pair-room pair-all
 
           pub pair-writes : Writes (operand_written p W) W L to l L2 to2
           pair-writes = rw pair-words (w1.0, pair-all)

@@ -1,23 +1,16 @@
--- What each case of the crate's enums says: document 01's number and values for an answer.
-use Rattle.std.specs.Prelude.{ℕ, List, length}
+-- What each case of an answer says: document 01's number and values for it.
+use Rattle.std.specs.Prelude.{ℕ, List, length, Result, Ok, Err}
 use Rattle.molang.specs.Forest.{Forest, nil, node}
 use Rattle.molang.specs.Words.{with_number}
 use Rattle.molang.specs.Plain.{unplain_at}
 use Rattle.molang.specs.WriteEntry.{WriteCall, WriteTold, tokens, unwritten, forest_refusal, write_told, list_in}
-use Rattle.write.specs.declared.Written.{Written}
-use Rattle.write.specs.declared.Written.TheVariants.{Tokens, Refused}
-use Rattle.write.specs.declared.plain.Judged.{Judged}
-use Rattle.write.specs.declared.plain.Judged.TheVariants.{Plain, Unplain}
+use Rattle.words.specs.Refusals.{reason_number}
+use Rattle.words.specs.declared.refusals.Refusal.{Refusal}
 
--- The write entry's answer.
-abbrev pub told_of : Written → WriteTold
-told_of (Tokens count) = tokens count
-told_of (Refused number place) = unwritten number place
-
--- What each case of `Judged` says: the token count, or answer 13 with its place.
-abbrev pub verdict_of : Judged → WriteTold
-verdict_of (Plain count) = tokens count
-verdict_of (Unplain place) = unwritten 13 place
+-- The answer of the write entry and of its parts: the token count, or the refusal's number and place.
+abbrev pub told_of : Result ℕ Refusal → WriteTold
+told_of (Ok count) = tokens count
+told_of (Err refusal) = unwritten (reason_number refusal.reason) refusal.place
 
 -- What is told of a tree where only answer 13 is looked at.
 unfoldable pub judgement : Forest → WriteTold

@@ -1,11 +1,11 @@
--- What a reader over the tree words reads at its position, and the reader at a position.
-use Rattle.std.specs.Prelude.{ℕ, ◌+◌, List, get_or}
+-- What a reader over the tree words reads at its position, and where it stands behind a node.
+use Rattle.std.specs.Prelude.{ℕ, ◌+◌, ◌-◌, ◌≤◌, ◌<◌, ◌≡◌, Option, None, Some, List, length, get_or}
 use Rattle.std.specs.Borrow.{Bor}
+use Rattle.std.specs.Iterator.{Count, at_most}
 use Rattle.molang.specs.Words.{low_of}
 use Rattle.words.specs.Fields.{operator_of}
 use Rattle.write.specs.declared.reader.TreeReader.{TreeReader}
 use Rattle.write.specs.declared.reader.NodeView.{NodeView}
-use Rattle.write.specs.declared.reader.Passed.{Passed}
 use Rattle.words.specs.Tokens.{node_length}
 use Rattle.shape.specs.Shaped.{count_index}
 
@@ -21,18 +21,19 @@ children_at words at = low_of (get_or words (at + count_index) 0)
 abbrev pub reader_at : Bor (List ℕ) → ℕ → TreeReader
 reader_at words at = record { words = words; at = at }
 
--- What is seen of the node that starts at a word, with where the next one stands.
+-- What is seen of the node that starts at a word.
 abbrev pub view_at : List ℕ → ℕ → NodeView
 view_at words at =
-    record { op = operator_at words at; children = children_at words at; next = operator_at words (at + node_length); after = at + node_length }
+    record { at = at; op = operator_at words at; children = children_at words at; next = operator_at words (at + node_length) }
 
--- The node that a reader over these words passes at a position, with the reader behind it.
-abbrev pub passed_at : Bor (List ℕ) → ℕ → Passed
-passed_at words at =
-    record {
-      words = words;
-      at = at + node_length;
-      op = operator_at words.now at;
-      children = children_at words.now at;
-      next = operator_at words.now (at + node_length);
-    }
+-- A reader that passes a node stands behind it; where the words do not hold a whole node any more it stays.
+abbrev pub PassesNode : TreeReader → Option NodeView → TreeReader → Type 0
+PassesNode old (Some seen) new =
+    (old.at + node_length ≤ length old.words.now)
+    × (seen ≡ view_at old.words.now old.at)
+    × (new ≡ reader_at old.words (old.at + node_length))
+PassesNode old None new = (length old.words.now < old.at + node_length) × (new ≡ old)
+
+-- No more nodes come than words are left.
+abbrev pub words_left : TreeReader → Count
+words_left reader = at_most (length reader.words.now - reader.at)

@@ -25,7 +25,11 @@ only_seat op = elim (is_bracket op) [ true ↦ Enclosed | false ↦ elim (is_mat
 unfoldable pub left_seat : ℕ → Seat
 left_seat op = elim (eqb op Operator.comma) [ true ↦ LeftOfComma | false ↦ Operand ]
 
--- The seat of the second.
+-- The seat of the first child of an operator over so many children.
+unfoldable pub first_seat : ℕ → ℕ → Seat
+first_seat op children = elim (eqb children 2) [ true ↦ left_seat op | false ↦ only_seat op ]
+
+-- The seat of the second of two.
 unfoldable pub right_seat : ℕ → Seat
 right_seat op = elim (eqb op Operator.conditional) [ true ↦ RightOfQuestion | false ↦ Operand ]
 

@@ -1,5 +1,5 @@
 -- The words that writing lays into the list, and the part of the tree words that a tree fills.
-use Rattle.std.specs.Prelude.{ℕ, suc, ◌+◌, ◌*◌, ◌%◌, ◌^◌, ◌≤◌, ◌≡◌, List, [], true, false, not, length, take, get_or}
+use Rattle.std.specs.Prelude.{ℕ, suc, ◌+◌, ◌-◌, ◌*◌, ◌%◌, ◌^◌, ◌≤◌, ◌≡◌, List, [], true, false, not, length, take, get_or}
 use Rattle.molang.specs.Forest.{Token, Forest, nil, node, count, size}
 use Rattle.molang.specs.Operator
 use Rattle.molang.specs.Operator.{is_bracket}
@@ -33,17 +33,13 @@ pair_closer end = five_words (spanning_words Operator.right_parenthesis end end)
 unfoldable pub closer_words : List ℕ → List ℕ
 closer_words ws = elim (is_bracket (operator_of (get_or ws 0 0))) [ true ↦ pair_closer (get_or ws close_index 0) | false ↦ [] ]
 
--- An extent, of its two numbers.
-abbrev pub seen : ℕ → ℕ → Extent
-seen low high = record { start = low; end = high }
+-- The extent of nothing, which every span widens.
+abbrev pub nothing_seen : Extent
+nothing_seen = record { start = 2 ^ 29 - 1; end = 0 }
 
 -- An extent with that of the first tree taken in.
 abbrev pub seen_with : Extent → List ℕ → Extent
 seen_with e ws = extent_with e (first_trees 1 (trees_of ws))
-
--- The extent of two numbers with that of the first tree taken in.
-abbrev pub seen_after : ℕ → ℕ → List ℕ → Extent
-seen_after low high ws = seen_with (seen low high) ws
 
 -- The nodes of the first tree.
 unfoldable pub first_size : Forest → ℕ

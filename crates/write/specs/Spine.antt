@@ -1,18 +1,13 @@
 -- The first children of a tree, one below the other: they stand in a row in the words, and are written from the last one up.
 use Rattle.std.specs.Prelude.{ℕ, suc, ◌+◌, ◌-◌, ◌≡◌, Bool, true, false, List, eqb, get_or}
-use Rattle.write.specs.declared.plain.Seat.{Seat}
 use Rattle.write.specs.Reading.{operator_at, children_at}
-use Rattle.write.specs.Seats.{is_paired, only_seat, left_seat, if_true}
+use Rattle.write.specs.Seats.{is_paired, first_seat, if_true}
 use Rattle.words.specs.Tokens.{node_length}
 use Rattle.shape.specs.Shaped.{Shaped}
 use Rattle.words.specs.Records.{laid_at}
 use Rattle.words.specs.Extents.{wider}
 use Rattle.words.specs.declared.extent.Extent.{Extent}
 use Rattle.write.specs.Spelling.{pair_opener, pair_closer}
-
--- The seat of the first child of an operator over so many children.
-unfoldable pub first_seat : ℕ → ℕ → Seat
-first_seat op children = elim (eqb children 2) [ true ↦ left_seat op | false ↦ only_seat op ]
 
 -- The first child of the node at a word gets an added pair.
 unfoldable pub has_pair : List ℕ → ℕ → Bool
@@ -30,9 +25,9 @@ abbrev pub front_at : List ℕ → ℕ → ℕ
 front_at words at = front_of (children_at words at) (has_pair words at)
 
 -- The list with a pair over an extent around words that stand from `at` to `to`, or as it is.
-abbrev pub with_pair : Bool → ℕ → ℕ → ℕ → ℕ → List ℕ → List ℕ
-with_pair true start end at to list = laid_at to (pair_closer end) (laid_at (at - 5) (pair_opener start end) list)
-with_pair false start end at to list = list
+abbrev pub with_pair : Bool → Extent → ℕ → ℕ → List ℕ → List ℕ
+with_pair true e at to list = laid_at to (pair_closer e.end) (laid_at (at - 5) (pair_opener e.start e.end) list)
+with_pair false e at to list = list
 
 -- An extent with the span of the node that words open with taken in.
 abbrev pub span_taken : Extent → List ℕ → Extent

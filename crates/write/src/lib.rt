@@ -13,56 +13,43 @@ ghost use Rattle.molang.specs.WriteEntry.{write_answered, list_after, trees_of};
 ghost use Rattle.write.specs.Answers.{told_of, filling, filled, call};
 ghost use Rattle.write.specs.Spelling.{Writable};
 
-use crate::plain::{Judged, judge};
-use crate::spell::{LAST_START, write_node};
+use crate::plain::judge;
+use crate::spell::{Pen, write_node};
 use crate::statements::write_statements;
 use ops::op;
-use shape::{Fault, first_fault};
-use words::{fields, refusals};
-
-// What a call is answered: the number of tokens that were written, or a refusal's number and place.
-#[derive(Clone, Copy)]
-pub enum Written {
-    Tokens(usize),
-    Refused(u32, usize),
-}
+use shape::first_fault;
+use words::fields;
+use words::refusals::{Reason, Refusal};
 
 // Writes a plain tree of so many tokens, if the list has room for them: of a root semicolon its statements, of any other root the
 // expression.
-fn fill(tree: &[u32], list: &mut [u32], tokens: usize) -> Written
+fn fill(tree: &[u32], list: &mut [u32], tokens: usize) -> Result<usize, Refusal>
     requires { Writable tree.now tokens }
     ensures result_value { told_of result ≡ filling (trees_of tree.now) list.old }
     ensures list_after { list.new ≡ filled (trees_of tree.now) list.old }
 {
     if fields::MOST_TOKENS < tokens {
-        return Written::Refused(refusals::WRITTEN_TOO_LONG, 0);
+        return Err(Reason::WrittenTooLong.at(0));
     }
     if list.len() < fields::TOKEN_WORDS * tokens {
-        return Written::Refused(refusals::SHORT_LIST, 0);
+        return Err(Reason::ShortList.at(0));
     }
     if fields::operator(tree[0]) == op::SEMICOLON {
         write_statements(tree, list);
-        return Written::Tokens(tokens);
+    } else {
+        write_node(tree, list, &mut Pen::new(0));
     }
-    let mut to = 0usize;
-    let mut low = LAST_START;
-    let mut high = 0u32;
-    write_node(tree, list, &mut to, &mut low, &mut high);
-    Written::Tokens(tokens)
+    Ok(tokens)
 }
 
 // The entry.
-pub fn write(tree: &[u32], list: &mut [u32]) -> Written
+pub fn write(tree: &[u32], list: &mut [u32]) -> Result<usize, Refusal>
     ensures result_value { told_of result ≡ write_answered (call tree.now list.old) }
     ensures list_after { list.new ≡ list_after (call tree.now list.old) }
 {
-    let found = first_fault(tree);
-    if let Fault::At(place) = found {
-        return Written::Refused(refusals::NOT_ONE_TREE, place);
+    if let Some(place) = first_fault(tree) {
+        return Err(Reason::NotOneTree.at(place));
     }
-    let judged = judge(tree);
-    match judged {
-        Judged::Unplain(node) => Written::Refused(refusals::NOT_PLAIN, node),
-        Judged::Plain(tokens) => fill(tree, list, tokens),
-    }
+    let tokens = judge(tree)?;
+    fill(tree, list, tokens)
 }

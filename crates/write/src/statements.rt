@@ -7,35 +7,34 @@ ghost use Rattle.words.specs.Tokens.{node_length};
 ghost use Rattle.write.specs.Spelling.{first_size};
 ghost use Rattle.write.specs.Scripts.{statement_written, statements_written, StatementRoom, ScriptRoom};
 
-use crate::spell::{LAST_START, put, write_node};
+use crate::spell::{Pen, write_node};
 use ops::op;
 use words::fields;
 use words::tokens::TokenWords;
 
-// Writes the statement that the words open with; gives back how many words it fills. What it holds gets no added pair, so the extent that
-// `write_node` takes in is not asked for.
-fn write_statement(words: &[u32], list: &mut [u32], to: &mut usize) -> usize
-    requires { StatementRoom words.now list.old to.old }
+// Writes the statement that the words open with; gives back how many words it fills. What it holds gets no added pair, so what the pen has
+// seen is not asked for.
+fn write_statement(words: &[u32], list: &mut [u32], pen: &mut Pen) -> usize
+    requires { StatementRoom words.now list.old pen.old.to }
     ensures value { result ≡ node_length * first_size (trees_of words.now) }
-    ensures list_after { list.new ≡ laid_at to.old (statement_written words.now) list.old }
-    ensures to_after { to.new ≡ to.old + length (statement_written words.now) }
+    ensures list_after { list.new ≡ laid_at pen.old.to (statement_written words.now) list.old }
+    ensures to_after { pen.new.to ≡ pen.old.to + length (statement_written words.now) }
 {
     let held = &words[fields::NODE_WORDS..];
-    let mut low = LAST_START;
-    let mut high = 0u32;
-    let written = write_node(held, list, to, &mut low, &mut high);
-    put(list, to, TokenWords::at(held, 0).bare(op::SEMICOLON));
+    let written = write_node(held, list, pen);
+    pen.put(list, TokenWords::at(held, 0).bare(op::SEMICOLON));
     fields::NODE_WORDS + written.len()
 }
 
 // Writes the statements of a script from the list's front on. `fill` has seen that the list has room, and `judge` that the tree is plain.
+// (No `for`: each statement says how many words it fills.)
 pub fn write_statements(tree: &[u32], list: &mut [u32])
     requires { ScriptRoom tree.now list.old }
     ensures { list.new ≡ laid_at 0 (statements_written (drop node_length tree.now)) list.old }
 {
-    let mut to = 0usize;
+    let mut pen = Pen::new(0);
     let mut at = fields::NODE_WORDS;
     while at < tree.len() {
-        at += write_statement(&tree[at..], list, &mut to);
+        at += write_statement(&tree[at..], list, &mut pen);
     }
 }

@@ -7,13 +7,13 @@ use Rattle.molang.specs.{FirstFailure.{must, first_of}, Parse.{most_tokens, leng
 use Rattle.accept.proofs.lengths.Goals as goal
 
 pub returns-then-words-ne0 : goal.returns-then-words-ne0
-returns-then-words-ne0 c = unfold length_rows first_of must in rw (ne_eqb (length c.args.list.now % 5) 0 (λ e. omega arith))
+returns-then-words-ne0 c = unfold length_rows first_of must in rw (c.at.ensures, ne_eqb (length c.args.list.now % 5) 0 (λ e. omega arith))
 
 pub returns-then-n-gt-MOST_TOKENS : goal.returns-then-n-gt-MOST_TOKENS
 unfolding length_rows first_of must
 returns-then-n-gt-MOST_TOKENS c =
     let words = length c.args.list.now in
-    rw (eq-eqb (words % 5) 0 (omega arith), lt-leb (words / 5) most_tokens (omega arith))
+    rw (c.at-then-n-gt-MOST_TOKENS.ensures, eq-eqb (words % 5) 0 (omega arith), lt-leb (words / 5) most_tokens (omega arith))
 
 pub returns-then-sizes-n : goal.returns-then-sizes-n
 unfolding length_rows first_of must
@@ -21,6 +21,7 @@ returns-then-sizes-n c =
     let a = c.args in
     let words = length a.list.now in
     rw (
+      c.at-then-sizes-n.ensures,
       eq-eqb (words % 5) 0 (omega arith),
       le-leb (words / 5) most_tokens (omega arith),
       length-replicate {A = ℕ} a.sizes.tree 0,
@@ -33,6 +34,7 @@ returns-then-sizes c =
     let a = c.args in
     let words = length a.list.now in
     rw (
+      c.at-then-sizes.ensures,
       eq-eqb (words % 5) 0 (omega arith),
       le-leb (words / 5) most_tokens (omega arith),
       length-replicate {A = ℕ} a.sizes.tree 0,
@@ -47,6 +49,7 @@ returns-then-sizes-n-2 c =
     let a = c.args in
     let words = length a.list.now in
     rw (
+      c.at-then-sizes-n-2.ensures,
       eq-eqb (words % 5) 0 (omega arith),
       le-leb (words / 5) most_tokens (omega arith),
       length-replicate {A = ℕ} a.sizes.tree 0,

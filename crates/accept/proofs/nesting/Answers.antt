@@ -22,7 +22,7 @@ returns-then-most-depth c =
     let opened = c.open_after-depth.ensures ∙ (bits ∙ same-open depth _) in
     let deep = goes_above a.list.now a.limit a.n c.loop-index.index c.loop-index.depth c.loop-index.invariant (omega arith) (omega arith)
     (omega (arith, opened)) in
-    ap (λ (o : Option ℕ). verdict a.n (with_number 18 o)) (sym deep)
+    rw (c.at.ensures, deep)
 
 pub loop-index-preserved : goal.loop-index-preserved
 loop-index-preserved c =

@@ -2,7 +2,6 @@
 use mathlib.Core.Path.{ap}
 use native.Mathlib.Omega.{arith}
 use lib.ListN.{length, length-take}
-use borrow.Author.Rules.{rules}
 use Rattle.everylist.proofs.{InputLaws.{kept-came}}
 use Rattle.everylist.proofs.answer.Goals as goal
 
@@ -10,8 +9,8 @@ pub put_bytes-requires : goal.put_bytes-requires
 put_bytes-requires g c =
     let came = c.requires in omega (arith, length-take 44 came.input, ap length came.first)
 
-pub print-printed-requires : goal.print-printed-requires
-print-printed-requires g c =
+pub print-requires : goal.print-requires
+print-requires g c =
     let read = c.words_of in
     let put = c.put_bytes in
-    (search rules, kept-came _ _ _ _ _ c.requires put.ensures.whole read.ensures)
+    kept-came _ _ _ _ _ c.requires put.ensures.whole read.ensures

@@ -4,4 +4,4 @@ use Rattle.everylist.proofs.InputLaws.{short-input}
 use Rattle.everylist.proofs.main.Goals as goal
 
 pub answer-requires : goal.answer-requires
-answer-requires c = short-input c.fill-came.new.buffer c.fill-came.result.bytes (search rules) c.fill-came.ensures.prefix_len.0
+answer-requires c = short-input c.fill.new.buffer c.in-Ok.n (search rules) c.in-Ok.ensures.prefix_len.0

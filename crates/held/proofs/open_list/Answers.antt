@@ -1,16 +1,28 @@
--- `held::open_list` meets its contract: a slice that is too short, or a list that is kept as the entry answers it. Assumes nothing.
+-- `held::open_list` meets its contract: a slice that is too short, or a list that is kept if the entry accepts it. Assumes nothing.
 use Prim.Native.Nat.{ℕ, ◌/◌}
-use mathlib.Core.{Path.{◌≡◌, ap}, List.{List}}
+use mathlib.Core.{Path.{◌≡◌, ap, sym}, List.{List, ◌++◌}}
 use mir.{Syntax.{w16}, Facts.{to_z-of_z}}
-use lib.{IntN.{ℤ}, ListN.{length}}
+use lib.{IntN.{ℤ}, ListN.{length, drop}, Seq.{length-take-le}}
+use Rattle.std.proofs.lemmas.Result.{err_from_is_err_and}
+use Rattle.molang.specs.Parse.{in_front}
 use Rattle.held.specs.{declared.Held.{Held}, Held.{lent_call, opened}, Answers.{lent}}
-use Rattle.held.proofs.CallLaws.{open-short, open-keep, has-opened}
+use Rattle.held.proofs.CallLaws.{open-short, open-turned, open-room, has-opened}
 use Rattle.held.proofs.open_list.Goals as goal
 
 pub returns-then-words-lt-HELD_WORDS : goal.returns-then-words-lt-HELD_WORDS
 returns-then-words-lt-HELD_WORDS c =
     let a = c.args in
-    open-short a.words.now a.list.now (lent a.tree.now a.messages.now a.work.now a.limit) a.version c.if-words-lt-HELD_WORDS.true
+    rw c.at.ensures
+    (open-short a.words.now a.list.now (lent a.tree.now a.messages.now a.work.now a.limit) a.version c.if-words-lt-HELD_WORDS.true)
+
+pub returns-in_err-answer : goal.returns-in_err-answer
+unfolding lent_call
+returns-in_err-answer c =
+    let a = c.args in
+    let p = err_from_is_err_and c.from_residual.result c.from_residual.ensures.1 in
+    rw (p.1, p.2)
+    (open-turned a.words.now a.list.now (lent a.tree.now a.messages.now a.work.now a.limit) a.version c.if-words-lt-HELD_WORDS.false
+    (rw (to_z-of_z {w = w16} c.ranges.version) at c.in_err-answer.ensures))
 
 -- The held numbers.
 held-is : (words list : List ℕ) (version : ℤ) {v : ℤ} → v ≡ version
@@ -18,19 +30,35 @@ held-is : (words list : List ℕ) (version : ℤ) {v : ℤ} → v ≡ version
 unfolding opened
 held-is words list version same = ap (λ (v : ℤ). record { tokens = length list / 5; version = v; edits = 0 }) same
 
-pub keep-requires : goal.keep-requires
-unfolding lent_call
-keep-requires c =
-    let a = c.args in
-    let version = to_z-of_z {w = w16} c.ranges.version in
-    open-keep a.words.now a.list.now (lent a.tree.now a.messages.now a.work.now a.limit) a.version c.if-words-lt-HELD_WORDS.false
-    (rw version at c.read_own-answer.ensures) (held-is a.words.now a.list.now a.version version)
-
 pub returns : goal.returns
-unfolding lent_call
+unfolding lent_call in_front
 returns c =
     let a = c.args in
     let version = to_z-of_z {w = w16} c.ranges.version in
     has-opened a.words.now a.list.now (lent a.tree.now a.messages.now a.work.now a.limit) a.version c.if-words-lt-HELD_WORDS.false
-    (rw version at c.read_own-answer.ensures) (held-is a.words.now a.list.now a.version version)
-    c.keep.ensures.result_value c.keep.ensures.words_after
+    (rw version at c.in_ok-answer.ensures) (held-is a.words.now a.list.now a.version version)
+    (ap (λ (l : List ℕ). l ++ drop (length a.list.now) a.words.now) c.copy_from_slice.ensures.after)
+
+pub slice_bounds-copy_from_slice-end : goal.slice_bounds-copy_from_slice-end
+unfolding lent_call
+slice_bounds-copy_from_slice-end c =
+    let a = c.args in
+    open-room a.words.now a.list.now (lent a.tree.now a.messages.now a.work.now a.limit) a.version c.if-words-lt-HELD_WORDS.false
+    (rw (to_z-of_z {w = w16} c.ranges.version) at c.in_ok-answer.ensures)
+
+pub slice_bounds-copy_from_slice-end-2 : goal.slice_bounds-copy_from_slice-end-2
+unfolding lent_call
+slice_bounds-copy_from_slice-end-2 c =
+    let a = c.args in
+    sym
+    (length-take-le _ _
+    (open-room a.words.now a.list.now (lent a.tree.now a.messages.now a.work.now a.limit) a.version c.if-words-lt-HELD_WORDS.false
+    (rw (to_z-of_z {w = w16} c.ranges.version) at c.in_ok-answer.ensures)))
+
+pub copy_from_slice-requires : goal.copy_from_slice-requires
+unfolding lent_call
+copy_from_slice-requires c =
+    let a = c.args in
+    length-take-le _ _
+    (open-room a.words.now a.list.now (lent a.tree.now a.messages.now a.work.now a.limit) a.version c.if-words-lt-HELD_WORDS.false
+    (rw (to_z-of_z {w = w16} c.ranges.version) at c.in_ok-answer.ensures))

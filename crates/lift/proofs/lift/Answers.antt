@@ -6,8 +6,11 @@ use lib.IntN.{ℤ}
 use mathlib.Core.List.{List}
 use mir.Syntax.{w16}
 use mir.Facts.{to_z-of_z}
-use Rattle.accept.specs.Accepting.{Verdict, verdict_of, verdict, length_refusal}
+use Rattle.accept.specs.Accepting.{Verdict, verdict, length_refusal}
 use Rattle.own.{specs.Own.{own_call}, proofs.CallLaws.{same-call}}
+use Rattle.std.specs.Prelude.{Result}
+use Rattle.words.specs.declared.refusals.Refusal.{Refusal}
+use Rattle.std.proofs.lemmas.Result.{err_from_is_err_and}
 use Rattle.parse.specs.{Answers.{HasParsed}, declared.Answer.{Answer}}
 use Rattle.lift.specs.{Lifting.{LiftCall, room_refusal, first_limit, first_call}, Answers.{engine, lift_call}}
 use Rattle.lift.proofs.{CallLaws.{no_room, has_room, has_first}}
@@ -29,7 +32,7 @@ found c e h =
 -- What the first reading told and left.
 parsed : (c : LiftCall) {limit : ℕ} → limit ≡ first_limit c.from.limit c.to.limit
     → {version : ℤ} → version ≡ c.from.version
-    → {first : Answer} {tree messages work : List ℕ}
+    → {first : Result Answer Refusal} {tree messages work : List ℕ}
     → HasParsed (own_call c.list c.tree c.messages c.work version limit) first tree messages work
     → HasParsed (first_call c) first tree messages work
 unfolding first_call
@@ -44,24 +47,22 @@ after_first-requires c =
     in
     record { call = _; says = sym p.told; left = p.tree }
 
-pub returns-in-Refused : goal.returns-in-Refused
-returns-in-Refused c =
+pub returns-in_err-lengths : goal.returns-in_err-lengths
+returns-in_err-lengths c =
     let given =
     (lift_call c.args.list.now c.args.tree.now c.args.again.now c.args.messages.now c.args.work.now c.args.output.now
     (engine c.args.from c.args.limit_from) (engine c.args.to c.args.limit_to))
     in
-    no_room given c.in-Refused.number c.in-Refused.place _
-    (sym (ap verdict_of c.in-Refused.is) ∙ found given c.shorter.ensures c.lengths-room.ensures)
+    let p = err_from_is_err_and c.from_residual.result c.from_residual.ensures.1 in
+    rw (p.1, p.2) (no_room given _ (found given c.min.ensures c.in_err-lengths.ensures))
 
-pub returns-in-Tokens : goal.returns-in-Tokens
-returns-in-Tokens c =
+pub returns : goal.returns
+returns c =
     let given =
     (lift_call c.args.list.now c.args.tree.now c.args.again.now c.args.messages.now c.args.work.now c.args.output.now
     (engine c.args.from c.args.limit_from) (engine c.args.to c.args.limit_to))
     in
-    let free =
-    has_room given _ _ (sym (ap verdict_of c.in-Tokens.is) ∙ found given c.shorter.ensures c.lengths-room.ensures)
-    in
+    let free = has_room given _ _ (found given c.min.ensures c.in_ok-lengths.ensures) in
     has_first given free
     (parsed given c.first_limit-limit.ensures (to_z-of_z {w = w16} c.ranges.from) c.read_own-first.ensures)
     (to_z-of_z {w = w16} c.ranges.to) c.after_first.ensures

@@ -1,14 +1,15 @@
 -- `lift::write_out` meets its contract: what was written has at most 4,096 tokens and is held to the limit as far as it goes. Assumes
 -- nothing.
 use Prim.Native.Nat.{ℕ, ◌*◌, ◌≤◌}
-use mathlib.Core.Path.{◌≡◌, sym, ap, ◌∙◌}
+use mathlib.Core.Path.{◌≡◌, ap}
 use native.Mathlib.Omega.{arith}
 use mathlib.Core.List.{List}
 use lib.ListN.{length, length-take}
-use Rattle.molang.specs.WriteEntry.{WriteTold, tokens, write_answered, list_after}
+use Rattle.std.specs.Prelude.{Ok, Err}
+use Rattle.std.proofs.lemmas.Result.{err_from_is_err_and}
+use Rattle.molang.specs.WriteEntry.{tokens, write_answered, list_after}
 use Rattle.molang.specs.Parse.{a_tree}
-use Rattle.write.specs.{Answers.{told_of}, declared.Written.{Written}, declared.Written.TheVariants.{Tokens}}
-use Rattle.lift.specs.Answers.{WasRead}
+use Rattle.lift.specs.{declared.Outcome.TheVariants.{Lifted}, Answers.{WasRead}}
 use Rattle.lift.specs.Lifting.{writer_call, held_told}
 use Rattle.lift.proofs.{CallLaws.{read-room, written-room, written-few, out-unwritten, out_written}}
 use Rattle.lift.proofs.write_out.Goals as goal
@@ -21,10 +22,6 @@ pub slice_bounds-write-end : goal.slice_bounds-write-end
 slice_bounds-write-end c =
     omega (arith, read-room c.args.nodes c.args.tree.now c.requires, length-take (7 * c.args.nodes) c.args.tree.now)
 
--- What the writer told.
-wrote : {told : Written} {count : ℕ} {w : WriteTold} → told ≡ Tokens count → told_of told ≡ w → tokens count ≡ w
-wrote is told = ap told_of (sym is) ∙ told
-
 -- It wrote so many tokens, which stand within the output.
 room : (tree output : List ℕ) (nodes count : ℕ) → WasRead (a_tree nodes) tree
     → tokens count ≡ write_answered (writer_call tree output nodes)
@@ -35,50 +32,62 @@ room tree output nodes count read told left = rw left (written-room tree output 
 pub overflow_mul-end : goal.overflow_mul-end
 unfolding writer_call
 overflow_mul-end c =
-    let told = wrote c.in-Tokens.is c.write-wrote.ensures.result_value in
-    omega (arith, room c.args.tree.now c.args.output.now c.args.nodes c.in-Tokens.count c.requires told c.write-wrote.ensures.list_after)
+    let wrote = c.in_ok-count.ensures in
+    omega (arith, room c.args.tree.now c.args.output.now c.args.nodes c.in_ok-count.count c.requires wrote.result_value wrote.list_after)
 
 pub slice_bounds-nesting-end : goal.slice_bounds-nesting-end
 unfolding writer_call
 slice_bounds-nesting-end c =
-    let told = wrote c.in-Tokens.is c.write-wrote.ensures.result_value in
-    room c.args.tree.now c.args.output.now c.args.nodes c.in-Tokens.count c.requires told c.write-wrote.ensures.list_after
+    let wrote = c.in_ok-count.ensures in
+    room c.args.tree.now c.args.output.now c.args.nodes c.in_ok-count.count c.requires wrote.result_value wrote.list_after
 
-pub slice_bounds-nesting-end-in-Tokens : goal.slice_bounds-nesting-end-in-Tokens
+pub slice_bounds-nesting-end-2 : goal.slice_bounds-nesting-end-2
 unfolding writer_call
-slice_bounds-nesting-end-in-Tokens c =
-    let told = wrote c.in-Tokens.is c.write-wrote.ensures.result_value in
-    let n = 5 * c.in-Tokens.count in
-    let list = c.write-wrote.new.list in
+slice_bounds-nesting-end-2 c =
+    let wrote = c.in_ok-count.ensures in
+    let n = 5 * c.in_ok-count.count in
     omega (
       arith,
-      room c.args.tree.now c.args.output.now c.args.nodes c.in-Tokens.count c.requires told c.write-wrote.ensures.list_after,
-      length-take n list,
+      room c.args.tree.now c.args.output.now c.args.nodes c.in_ok-count.count c.requires wrote.result_value wrote.list_after,
+      length-take n c.write.new.list,
     )
 
-pub nesting-found-requires : goal.nesting-found-requires
+pub nesting-requires : goal.nesting-requires
 unfolding writer_call
-nesting-found-requires c =
-    let told = wrote c.in-Tokens.is c.write-wrote.ensures.result_value in
-    let n = 5 * c.in-Tokens.count in
-    let list = c.write-wrote.new.list in (
+nesting-requires c =
+    let wrote = c.in_ok-count.ensures in
+    let n = 5 * c.in_ok-count.count in (
       omega (
         arith,
-        room c.args.tree.now c.args.output.now c.args.nodes c.in-Tokens.count c.requires told c.write-wrote.ensures.list_after,
-        length-take n list,
+        room c.args.tree.now c.args.output.now c.args.nodes c.in_ok-count.count c.requires wrote.result_value wrote.list_after,
+        length-take n c.write.new.list,
       ),
-      written-few c.args.tree.now c.args.output.now c.args.nodes c.in-Tokens.count c.requires told,
+      written-few c.args.tree.now c.args.output.now c.args.nodes c.in_ok-count.count c.requires wrote.result_value,
     )
 
-pub returns-in-Refused : goal.returns-in-Refused
+pub returns-in_err-count : goal.returns-in_err-count
 unfolding writer_call
-returns-in-Refused c =
-    out-unwritten c.args.tree.now c.args.output.now c.args.limit c.args.nodes c.write-wrote.new.list c.write-wrote.ensures.list_after
-    c.in-Refused.number c.in-Refused.place (ap told_of (sym c.in-Refused.is) ∙ c.write-wrote.ensures.result_value)
+returns-in_err-count c =
+    let a = c.args in
+    let p = err_from_is_err_and c.from_residual.result c.from_residual.ensures.1 in
+    rw (p.1, p.2)
+    (out-unwritten a.tree.now a.output.now a.limit a.nodes c.write.new.list c.in_err-count.ensures.list_after _
+    c.in_err-count.ensures.result_value)
 
-pub returns-in-Tokens : goal.returns-in-Tokens
+pub returns-in_err-nesting : goal.returns-in_err-nesting
 unfolding writer_call
-returns-in-Tokens c =
-    let count = c.in-Tokens.count in
-    out_written c.args.tree.now c.args.output.now c.args.limit c.args.nodes c.write-wrote.new.list c.write-wrote.ensures.list_after count
-    (wrote c.in-Tokens.is c.write-wrote.ensures.result_value) c.held.result (c.held.ensures ∙ ap (held_told count) c.nesting-found.ensures)
+returns-in_err-nesting c =
+    let a = c.args in
+    let count = c.in_ok-count.count in
+    let p = err_from_is_err_and c.from_residual-in_err-nesting.result c.from_residual-in_err-nesting.ensures.1 in
+    rw (p.1, p.2)
+    (out_written a.tree.now a.output.now a.limit a.nodes c.write.new.list c.in_ok-count.ensures.list_after count
+    c.in_ok-count.ensures.result_value (Err _) (ap (held_told count) c.in_err-nesting.ensures))
+
+pub returns : goal.returns
+unfolding writer_call
+returns c =
+    let a = c.args in
+    let count = c.in_ok-count.count in
+    out_written a.tree.now a.output.now a.limit a.nodes c.write.new.list c.in_ok-count.ensures.list_after count
+    c.in_ok-count.ensures.result_value (Ok (Lifted count)) (ap (held_told count) c.in_ok-nesting.ensures)

@@ -7,5 +7,5 @@ use Rattle.liftcount.proofs.answer.Goals as goal
 pub hand-requires : goal.hand-requires
 hand-requires g c =
     let laid = c.finish-n.ensures.wrote in
-    let came = c.requires.1 in
+    let came = c.requires in
     record { input = came.input; is = wrote-front laid ∙ came-prints _ came }

@@ -6,29 +6,25 @@ use Rattle.molang.{specs.Operator.{between, is_math_call}, proofs.OperatorNumber
 use Rattle.ops.proofs.{OperatorLaws.{true-at, false-at}}
 use Rattle.ops.proofs.is_math_call.Goals as goal
 
-pub returns-in-10-to-19 : goal.returns-in-10-to-19
+pub returns-in-8 : goal.returns-in-8
 unfolding between is_math_call
-returns-in-10-to-19 c =
-    let op = c.args.op in
-    true-at is_math_call 10 10 tt op (omega arith) (omega arith)
+returns-in-8 c = true-at is_math_call 8 1 tt c.args.op (omega arith) (omega arith)
 
-pub returns-in-21-to-30 : goal.returns-in-21-to-30
+pub returns-in-8-2 : goal.returns-in-8-2
 unfolding between is_math_call
-returns-in-21-to-30 c =
-    let op = c.args.op in
-    true-at is_math_call 21 10 tt op (omega arith) (omega arith)
+returns-in-8-2 c = true-at is_math_call 10 10 tt c.args.op (omega arith) (omega arith)
 
-pub returns-in-32-to-39 : goal.returns-in-32-to-39
+pub returns-in-8-3 : goal.returns-in-8-3
 unfolding between is_math_call
-returns-in-32-to-39 c =
-    let op = c.args.op in
-    true-at is_math_call 32 8 tt op (omega arith) (omega arith)
+returns-in-8-3 c = true-at is_math_call 21 10 tt c.args.op (omega arith) (omega arith)
 
-pub returns-in-78-to-110 : goal.returns-in-78-to-110
+pub returns-in-8-4 : goal.returns-in-8-4
 unfolding between is_math_call
-returns-in-78-to-110 c =
-    let op = c.args.op in
-    true-at is_math_call 78 33 tt op (omega arith) (omega arith)
+returns-in-8-4 c = true-at is_math_call 32 8 tt c.args.op (omega arith) (omega arith)
+
+pub returns-in-8-5 : goal.returns-in-8-5
+unfolding between is_math_call
+returns-in-8-5 c = true-at is_math_call 78 33 tt c.args.op (omega arith) (omega arith)
 
 pub returns-in_default : goal.returns-in_default
 unfolding between is_math_call
@@ -62,7 +58,3 @@ returns-in_default-4 c =
 
 pub returns-in_default-5 : goal.returns-in_default-5
 returns-in_default-5 c = sym (no-math c.args.op (omega arith))
-
-pub returns-in-8 : goal.returns-in-8
-returns-in-8 c =
-    unfold between is_math_call in rw c.in-8.is

@@ -3,14 +3,10 @@ use native.Mathlib.Omega.{arith}
 use Rattle.ops.proofs.{OperatorLaws.{raise-few, open-raised}}
 use Rattle.ops.proofs.open_after.Goals as goal
 
-pub returns-then-raised-eq0 : goal.returns-then-raised-eq0
-returns-then-raised-eq0 c =
-    let a = c.args in omega (arith, open-raised a.depth a.op, c.raise_of.ensures)
-
 pub returns : goal.returns
 returns c =
-    let a = c.args in omega (arith, open-raised a.depth a.op, c.raise_of.ensures)
+    let a = c.args in omega (arith, open-raised a.depth a.op, c.raise_of.ensures, c.saturating_sub.ensures)
 
-pub overflow_add-raised : goal.overflow_add-raised
-overflow_add-raised c =
+pub overflow_add-depth : goal.overflow_add-depth
+overflow_add-depth c =
     omega (arith, raise-few c.args.op, c.raise_of.ensures)

@@ -1,6 +1,5 @@
 -- `own::read_list` meets its contract: the list's own call with buffers that are long enough. Assumes nothing.
 use mathlib.Core.Path.{◌∙◌}
-use borrow.Author.Rules.{rules}
 use mir.Facts.{to_z-of_z}
 use Rattle.own.proofs.{CallLaws.{told-own, tree-own, messages-own, work-own}}
 use Rattle.own.proofs.read_list.Goals as goal

@@ -1,5 +1,4 @@
 -- `own::read_own` meets its contract: the source length is the highest of the list's ends. Assumes nothing.
-use borrow.Author.Rules.{rules}
 use mir.Facts.{to_z-of_z}
 use Rattle.own.proofs.{CallLaws.{same-call, own-call}}
 use Rattle.own.proofs.read_own.Goals as goal

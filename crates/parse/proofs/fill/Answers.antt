@@ -4,48 +4,48 @@ use Rattle.parse.proofs.fill.Goals as goal
 
 pub fill_roots-requires : goal.fill_roots-requires
 fill_roots-requires c =
-    rw c.in-Roots.is at c.requires
+    rw c.in-Ok.is at c.requires
 
 pub report-requires : goal.report-requires
 report-requires c =
-    rw c.in-Failed.is at (fill-report c.requires)
+    rw (c.in-Err-Failed.is, rw c.in-Err-Failed.is at c.in-Err-Failed.field-0-is) at (fill-report c.requires)
 
 pub report_mismatch-requires : goal.report_mismatch-requires
 report_mismatch-requires c =
-    rw c.in-Mismatched.is at (fill-report-two c.requires)
+    rw (c.in-Err-Mismatched.is, rw c.in-Err-Mismatched.is at c.in-Err-Mismatched.field-0-is) at (fill-report-two c.requires)
 
 pub report_unclosed-requires : goal.report_unclosed-requires
 report_unclosed-requires c =
-    rw c.in-Unclosed.is at (fill-report-two c.requires)
+    rw (c.in-Err-Unclosed.is, rw c.in-Err-Unclosed.is at c.in-Err-Unclosed.field-0-is) at (fill-report-two c.requires)
 
 pub report_pointer-requires : goal.report_pointer-requires
 report_pointer-requires c =
-    rw c.in-PointerFailed.is at (fill-report c.requires)
+    rw (c.in-Err-PointerFailed.is, rw c.in-Err-PointerFailed.is at c.in-Err-PointerFailed.field-0-is) at (fill-report c.requires)
 
-pub returns-in-Roots : goal.returns-in-Roots
-returns-in-Roots c =
-    rw c.in-Roots.is c.fill_roots.ensures
+pub returns-in-Ok : goal.returns-in-Ok
+returns-in-Ok c =
+    rw c.in-Ok.is c.fill_roots.ensures
 
-pub returns-in-Failed : goal.returns-in-Failed
-returns-in-Failed c =
+pub returns-in-Err-Failed : goal.returns-in-Err-Failed
+returns-in-Err-Failed c =
     let a = c.args in
-    rw c.in-Failed.is (failed-filled a.work.now a.tree.now a.messages.now c.report.new.messages
+    rw (c.in-Err-Failed.is, rw c.in-Err-Failed.is at c.in-Err-Failed.field-0-is) (failed-filled a.work.now a.tree.now a.messages.now c.report.new.messages
     a.n a.source c.report.ensures)
 
-pub returns-in-Mismatched : goal.returns-in-Mismatched
-returns-in-Mismatched c =
+pub returns-in-Err-Mismatched : goal.returns-in-Err-Mismatched
+returns-in-Err-Mismatched c =
     let a = c.args in
-    rw c.in-Mismatched.is (mismatch-filled a.work.now a.tree.now a.messages.now
+    rw (c.in-Err-Mismatched.is, rw c.in-Err-Mismatched.is at c.in-Err-Mismatched.field-0-is) (mismatch-filled a.work.now a.tree.now a.messages.now
     c.report_mismatch.new.messages a.n a.source (c.report_mismatch.ensures a.source))
 
-pub returns-in-Unclosed : goal.returns-in-Unclosed
-returns-in-Unclosed c =
+pub returns-in-Err-Unclosed : goal.returns-in-Err-Unclosed
+returns-in-Err-Unclosed c =
     let a = c.args in
-    rw c.in-Unclosed.is (unclosed-filled a.work.now a.tree.now a.messages.now
+    rw (c.in-Err-Unclosed.is, rw c.in-Err-Unclosed.is at c.in-Err-Unclosed.field-0-is) (unclosed-filled a.work.now a.tree.now a.messages.now
     c.report_unclosed.new.messages a.n a.source (c.report_unclosed.ensures a.source))
 
-pub returns-in-PointerFailed : goal.returns-in-PointerFailed
-returns-in-PointerFailed c =
+pub returns-in-Err-PointerFailed : goal.returns-in-Err-PointerFailed
+returns-in-Err-PointerFailed c =
     let a = c.args in
-    rw c.in-PointerFailed.is (pointer-filled a.work.now a.tree.now a.messages.now
+    rw (c.in-Err-PointerFailed.is, rw c.in-Err-PointerFailed.is at c.in-Err-PointerFailed.field-0-is) (pointer-filled a.work.now a.tree.now a.messages.now
     c.report_pointer.new.messages a.n a.source c.report_pointer.ensures)

@@ -1,5 +1,5 @@
 -- `sections::look` meets its contract.
-use Prim.Native.Nat.{ℕ, ◌+◌, ◌^◌, ◌≤◌, ◌<◌}
+use Prim.Native.Nat.{ℕ, ◌+◌, ◌^◌, ◌≤◌}
 use mathlib.Core.{Path.{◌≡◌, refl, sym, ap, ◌∙◌}, Logic.{◌⊎◌, inl, inr, ⊎_elim}, Bool.{true, false}}
 use native.Mathlib.Omega.{arith}
 use lib.ListN.{length-set}
@@ -11,9 +11,6 @@ use Rattle.sections.proofs.SectionCases.{closer-open}
 use Rattle.sections.proofs.SectionLooking.{look_in, look-position, look-places, look-other, look-opens, look-closes, looked-on}
 use Rattle.sections.proofs.{SectionLooking.{position-small, opens-same}}
 use Rattle.sections.proofs.look.Goals as goal
-use Rattle.sections.proofs.look.Lts as lts
-use Rattle.sections.proofs.look.Tie as tie
-use Rattle.sections.proofs.look.Reads as reads
 
 -- No number above the brackets opens or closes, so the operator's bits as they stand do as the operator does.
 no-opener : (n : ℕ) → 6 ≤ n → is_opener n ≡ false
@@ -28,39 +25,24 @@ opens-by-bits n b e = sym (same-by-bits is_opener false (λ m h. no-opener m (om
 closes-by-bits : (n b : ℕ) → b ≡ operator_bits n 0 → is_closer n ≡ is_closer b
 closes-by-bits n b e = sym (same-by-bits is_closer false (λ m h. no_end m (omega arith)) n) ∙ ap is_closer (sym e)
 
--- What the two tests of the bits say of the operator.
-opening : (c : (lts.After-is_opener tie.the-claims reads.Pre reads.Post tie.handed_clauses))
-    → is_opener (op_at c.args.work.now c.args.item)
-    ≡ c.is_opener.result
-opening c =
-    let bits = c.operator_bits_of-operator in
-    opens-by-bits _ bits.result bits.ensures ∙ sym c.is_opener.ensures
-
-closing : (c : (lts.After-is_closer tie.the-claims reads.Pre reads.Post tie.handed_clauses))
-    → is_closer
-    (op_at c.args.work.now
-    c.args.item)
-    ≡ c.is_closer.result
-closing c =
-    let bits = c.operator_bits_of-operator in
-    closes-by-bits _ bits.result bits.ensures ∙ sym c.is_closer.ensures
-
-small : (c : (lts.After-position tie.the-claims reads.Pre reads.Post tie.handed_clauses)) → c.position-index.result + 1 < 2 ^ 32
-small c =
-    let e = c.position-index.ensures in
-    let a = c.args.at in
-    position-small a.depth a.write a.index c.position-index.result (2 ^ 32) e.0 e.1 c.requires.1 c.requires.2
-
 pub open_section-requires : goal.open_section-requires
 open_section-requires c =
+    let e = c.position-index in
+    let a = c.args.at in
     let g = c.requires.0 in
-    record { apart = g.apart; room = g.room; word = omega (arith, c.requires.1); start = small c.before.before.before.before }
+    record {
+      apart = g.apart;
+      room = g.room;
+      word = omega (arith, c.requires.1);
+      start = position-small a.depth a.write a.index e.result (2 ^ 32) e.ensures.0 e.ensures.1 c.requires.1 c.requires.2;
+    }
 
 pub returns-then-is_opener : goal.returns-then-is_opener
 returns-then-is_opener c =
     let e = c.position-index in
     let o = op_at c.args.work.now c.args.item in
-    let h : is_opener o ≡ true = opening c.before.before.before.before.before.before ∙ c.if-is_opener.true in
+    let bits = c.operator_bits_of-operator in
+    let h : is_opener o ≡ true = opens-by-bits _ bits.result bits.ensures ∙ (sym c.is_opener.ensures ∙ c.if-is_opener.true) in
     let r = c.open_section in
     let parts = looked-on c.requires.0 c.args.at.index e.result r.result r.new.work e.ensures.0 e.ensures.1
     (λ g. look-opens g o e.result r.result r.new.work refl h r.ensures.words r.ensures.more
@@ -71,14 +53,20 @@ returns-then-is_opener c =
 
 pub close_section-requires : goal.close_section-requires
 close_section-requires c =
-    (c.requires.0, c.if-depth-ne0.true, omega (arith, small c.before.before.before.before.before.before.before))
+    let e = c.position-index in
+    let a = c.args.at in (
+      c.requires.0,
+      c.if-depth-ne0.true,
+      omega (arith, position-small a.depth a.write a.index e.result (2 ^ 32) e.ensures.0 e.ensures.1 c.requires.1 c.requires.2),
+    )
 
 pub returns-then-depth-ne0 : goal.returns-then-depth-ne0
 returns-then-depth-ne0 c =
     let e = c.position-index in
     let o = op_at c.args.work.now c.args.item in
-    let h : is_opener o ≡ false = opening c.before.before.before.before.before.before.before.before.before ∙ c.if-is_opener.false in
-    let closes : is_closer o ≡ true = closing c.before.before.before.before.before.before.before ∙ c.if-is_closer.true in
+    let bits = c.operator_bits_of-operator in
+    let h : is_opener o ≡ false = opens-by-bits _ bits.result bits.ensures ∙ (sym c.is_opener.ensures ∙ c.if-is_opener.false) in
+    let closes : is_closer o ≡ true = closes-by-bits _ bits.result bits.ensures ∙ (sym c.is_closer.ensures ∙ c.if-is_closer.true) in
     let r = c.close_section in
     let w = r.ensures.closed in
     let fewer = closer-open c.args.at.depth o h closes in
@@ -97,9 +85,10 @@ pub returns : goal.returns
 returns c =
     let e = c.position-index in
     let o = op_at c.args.work.now c.args.item in
-    let h : is_opener o ≡ false = opening c.before.before.before ∙ c.if-is_opener.false in
+    let bits = c.operator_bits_of-operator in
+    let h : is_opener o ≡ false = opens-by-bits _ bits.result bits.ensures ∙ (sym c.is_opener.ensures ∙ c.if-is_opener.false) in
     let other : (is_closer o ≡ false) ⊎ (c.args.at.depth ≡ 0) =
-    elim c.if-is_closer.branch [ lts.then-is_closer+else-depth-ne0 w ↦ inr w.if-depth-ne0.false | lts.else-is_closer w ↦ inl (closing c.before ∙ w.if-is_closer.false) ]
+    ⊎_elim (λ w. inr w.1) (λ w. inl (closes-by-bits _ bits.result bits.ensures ∙ (sym c.is_closer.ensures ∙ w))) c.else-is_closer.either
     in
     let parts = looked-on c.requires.0 c.args.at.index e.result _ _ e.ensures.0 e.ensures.1
     (λ g. look-places g e.result _ refl (look-other g o e.result refl h other))

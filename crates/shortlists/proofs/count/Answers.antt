@@ -1,4 +1,4 @@
--- `shortlists::count` meets its contract: the alphabet first, then the length, then the powers of its letters' number. Assumes nothing.
+-- `shortlists::count` meets its contract: the alphabet first, then the length, then the powers of its letters' number.
 use mathlib.Core.{Path.{ap, sym, ◌∙◌}}
 use Rattle.shortlists.specs.{Answers.{found}}
 use Rattle.shortlists.proofs.{AlphabetLaws.{alphabet}, EntryLaws.{no-alphabet, too_long, counted}, ShortLists.{counts}}

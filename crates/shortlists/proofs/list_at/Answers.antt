@@ -1,35 +1,46 @@
--- `shortlists::list_at` meets its contract: it is turned back as `count` is, then by the position. Assumes nothing.
-use mathlib.Core.Path.{◌∙◌}
-use native.Mathlib.Omega.{arith}
+-- `shortlists::list_at` meets its contract: it is turned back as `count` is, then by the position.
+use Rattle.std.proofs.Common.{◌∙◌, ap, arith}
+use Rattle.std.proofs.lemmas.Result.{err_from_is_err_and}
+use Rattle.shortlists.specs.Answers.{found}
 use Rattle.shortlists.proofs.{EntryLaws.{counts-told, refused-too, past, listed}, ShortLists.{still-below}}
 use Rattle.shortlists.proofs.list_at.Goals as goal
 
-pub returns-then-lists-position : goal.returns-then-lists-position
-returns-then-lists-position c =
-    let a = c.args in
-    let told = counts-told c.args.alphabet.now c.args.length c.in-Lists.lists (rw c.in-Lists.is at c.count-counted.ensures) in
-    let all = told.all in
-    let both = past a.alphabet.now a.length a.position told.unrefused (omega arith) in
-    record { listed_value = both.0; words_value = both.1 }
+pub returns-in_err-lists-clause-listed_value : goal.returns-in_err-lists-clause-listed_value
+returns-in_err-lists-clause-listed_value c =
+    let p = err_from_is_err_and c.from_residual.result c.from_residual.ensures.1 in
+    rw (p.1, p.2) (refused-too c.args.alphabet.now c.args.length c.args.position _ c.in_err-lists.ensures).0
+
+pub returns-in_err-lists-clause-words_value : goal.returns-in_err-lists-clause-words_value
+returns-in_err-lists-clause-words_value c =
+    let p = err_from_is_err_and c.from_residual.result c.from_residual.ensures.1 in
+    rw (p.1) (refused-too c.args.alphabet.now c.args.length c.args.position _ c.in_err-lists.ensures).1
 
 pub list_of-requires : goal.list_of-requires
 list_of-requires c =
-    let a = c.args in
-    let told = counts-told c.args.alphabet.now c.args.length c.in-Lists.lists (rw c.in-Lists.is at c.count-counted.ensures) in
+    let told = counts-told c.args.alphabet.now c.args.length c.in_ok-lists.lists (rw c.in_ok-lists.was at c.count.ensures) in
     record {
       alphabet = told.alphabet;
-      below = still-below a.alphabet.now a.length 6 a.position told.short (omega (arith, told.all, c.if-lists-position.false));
+      below = still-below c.args.alphabet.now c.args.length 6 c.args.position told.short (omega (arith, told.all, c.if-position-lists.true));
     }
 
-pub returns-in-Refused : goal.returns-in-Refused
-returns-in-Refused c =
-    let a = c.args in
-    let both = refused-too a.alphabet.now a.length a.position c.in-Refused.number (rw c.in-Refused.is at c.count-counted.ensures) in
-    record { listed_value = both.0; words_value = both.1 }
+pub returns-then-position-lists-clause-listed_value : goal.returns-then-position-lists-clause-listed_value
+returns-then-position-lists-clause-listed_value c =
+    let told = counts-told c.args.alphabet.now c.args.length c.in_ok-lists.lists (rw c.in_ok-lists.was at c.count.ensures) in
+    ap found c.list_of.ensures.tokens_value
+    ∙ (listed _ c.args.length c.args.position told.unrefused told.short (omega (arith, told.all, c.if-position-lists.true))).0
 
-pub returns-else-lists-position : goal.returns-else-lists-position
-returns-else-lists-position c =
-    let a = c.args in
-    let told = counts-told c.args.alphabet.now c.args.length c.in-Lists.lists (rw c.in-Lists.is at c.count-counted.ensures) in
-    let both = listed a.alphabet.now a.length a.position told.unrefused told.short (omega (arith, told.all, c.if-lists-position.false)) in
-    record { listed_value = c.list_of.ensures.listed_value ∙ both.0; words_value = c.list_of.ensures.words_value ∙ both.1 }
+pub returns-then-position-lists-clause-words_value : goal.returns-then-position-lists-clause-words_value
+returns-then-position-lists-clause-words_value c =
+    let told = counts-told c.args.alphabet.now c.args.length c.in_ok-lists.lists (rw c.in_ok-lists.was at c.count.ensures) in
+    c.list_of.ensures.words_value
+    ∙ (listed _ c.args.length c.args.position told.unrefused told.short (omega (arith, told.all, c.if-position-lists.true))).1
+
+pub returns-else-position-lists-clause-listed_value : goal.returns-else-position-lists-clause-listed_value
+returns-else-position-lists-clause-listed_value c =
+    let told = counts-told c.args.alphabet.now c.args.length c.in_ok-lists.lists (rw c.in_ok-lists.was at c.count.ensures) in
+    (past c.args.alphabet.now c.args.length c.args.position told.unrefused (omega (arith, told.all, c.if-position-lists.false))).0
+
+pub returns-else-position-lists-clause-words_value : goal.returns-else-position-lists-clause-words_value
+returns-else-position-lists-clause-words_value c =
+    let told = counts-told c.args.alphabet.now c.args.length c.in_ok-lists.lists (rw c.in_ok-lists.was at c.count.ensures) in
+    (past c.args.alphabet.now c.args.length c.args.position told.unrefused (omega (arith, told.all, c.if-position-lists.false))).1

@@ -1,13 +1,7 @@
--- `shortlists::total` meets its contract. The loop's invariant: the lists of at most i letters are added up, of i letters there are `size`.
-use Prim.Native.Nat.{◌+◌, ◌-◌, ◌^◌, ◌≤◌}
-use mathlib.Core.Path.{◌≡◌}
+-- `shortlists::total`: the lists of so many letters at most are added up, and of so many letters there are `size`.
+use Rattle.std.proofs.Common.{◌≡◌, ◌+◌, ◌^◌}
 use Rattle.shortlists.specs.ShortLists.{powers}
 use Rattle.shortlists.proofs.total.Given as goal
 
-abbrev pub invariant-loop-i : goal.invariant-loop-i
-invariant-loop-i l =
-    (l.i ≤ l.n) × (l.size ≡ l.letters ^ l.i) × (l.all ≡ powers l.letters (l.i + 1))
-
-abbrev pub decreases-loop-i : goal.decreases-loop-i
-decreases-loop-i l =
-    l.n - l.i
+abbrev pub invariant-loop : goal.invariant-loop
+invariant-loop l = (l.size ≡ l.letters ^ l.counter) × (l.all ≡ powers l.letters (l.counter + 1))

@@ -1,33 +1,31 @@
 -- `stackorder::export` meets its contract: answer 12 first, then 25, or the words in the other order. Assumes nothing.
-use mathlib.Core.Path.{◌≡◌}
-use Rattle.molang.specs.StackOrder.{ReorderCall, export_refusal}
-use Rattle.stackorder.specs.{Answers.{call}, Filled.{refusal_in}}
-use Rattle.stackorder.proofs.{EntryLaws.{export-first, can-export, exported}}
+use mathlib.Core.Path.{◌∙◌}
+use Rattle.molang.{specs.StackOrder.{export_answered, exported_after, export_refusal}, proofs.StackOrder.{export-accepts}}
+use Rattle.shape.proofs.CaseLaws.{numbered-12}
+use Rattle.stackorder.specs.{Answers.{call}, declared.reorder.Direction.TheVariants.{Forward}}
+use Rattle.stackorder.proofs.EntryLaws.{told-back, can-reorder, put-in-order}
 use Rattle.stackorder.proofs.export.Goals as goal
-use Rattle.stackorder.proofs.export.Lts as lts
-use Rattle.stackorder.proofs.export.Tie as tie
-use Rattle.stackorder.proofs.export.Reads as reads
 
--- The call, by the values at entry.
-abbrev the_call : (lts.Start tie.the-claims reads.Pre reads.Post tie.handed_clauses) → ReorderCall
-the_call start = call start.args.tree.now start.args.output.now
+pub returns-in_err-and : goal.returns-in_err-and
+unfolding export_answered exported_after export_refusal
+returns-in_err-and c =
+    let asked = c.faultless-one_tree.ensures ∙ (numbered-12 c.first_fault.result ∙ c.first_fault.ensures) in
+    let back = told-back Forward c.args.tree.now c.args.output.now _ _ asked c.roomy-room.ensures _ c.in_err-and.ensures c.from_residual.ensures.1 in
+    record { result_value = back.tells; output_after = back.leaves }
 
--- Why it is turned back, if it is.
-turned-back : (c : (lts.After-first_of tie.the-claims reads.Pre reads.Post tie.handed_clauses))
-    → refusal_in c.first_of-refusal.result ≡ export_refusal (the_call c.before.before.before.before.before.before)
-turned-back c =
-    let a = c.args in
-    export-first a.tree.now a.output.now c.first_fault.result _ _ _ c.first_fault.ensures
-    c.numbered-not_a_tree.ensures c.short_output-short.ensures c.first_of-refusal.ensures
-
-pub fill-requires : goal.fill-requires
-fill-requires c =
-    let a = c.args in
-    can-export a.tree.now a.output.now _ (turned-back c.before.before)
+pub reorder-requires : goal.reorder-requires
+unfolding export_refusal
+reorder-requires c =
+    let asked = c.faultless-one_tree.ensures ∙ (numbered-12 c.first_fault.result ∙ c.first_fault.ensures) in
+    let W = c.args.tree.now in
+    let O = c.args.output.now in
+    can-reorder Forward W O _ _ asked c.roomy-room.ensures c.in_ok-and.ensures (export-accepts (call W O)).0
 
 pub returns : goal.returns
+unfolding export_answered exported_after export_refusal
 returns c =
-    let a = c.args in
-    let parts = exported a.tree.now a.output.now _ (turned-back c.before.before.before.before.before) c.fill.result c.fill.new.output
-    c.fill.ensures in
-    record { result_value = parts.0; output_after = parts.1 }
+    let asked = c.faultless-one_tree.ensures ∙ (numbered-12 c.first_fault.result ∙ c.first_fault.ensures) in
+    let W = c.args.tree.now in
+    let O = c.args.output.now in
+    let put = put-in-order Forward W O _ _ asked c.roomy-room.ensures c.in_ok-and.ensures (export-accepts (call W O)).0 c.reorder.ensures in
+    record { result_value = put.tells; output_after = put.leaves }

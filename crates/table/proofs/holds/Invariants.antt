@@ -1,14 +1,8 @@
--- `table::holds` meets its contract. The loop's invariant: whether the words from here on are those that the line says decides it. The
-use Prim.Native.Nat.{◌-◌, ◌≤◌}
-use mathlib.Core.Path.{◌≡◌}
-use lib.{ListN.{length, drop}}
+-- `table::holds`: whether the words from here on are those that the line says decides it.
+use Rattle.std.proofs.Common.{◌≡◌, drop}
 use Rattle.table.specs.Marked.{said_count, holds_from}
 use Rattle.table.proofs.holds.Given as goal
 
 abbrev pub invariant-loop-i : goal.invariant-loop-i
 invariant-loop-i l =
-    (l.i ≤ length l.buffer) × (holds_from l.i l.said l.n l.rest (drop l.i l.buffer) ≡ holds_from 0 l.said (said_count l.mark l.said) l.rest l.buffer)
-
-abbrev pub decreases-loop-i : goal.decreases-loop-i
-decreases-loop-i l =
-    length l.buffer - l.i
+    holds_from l.i l.said l.n l.rest (drop l.i l.buffer) ≡ holds_from 0 l.said (said_count l.mark l.said) l.rest l.buffer

@@ -4,4 +4,4 @@ use Rattle.treelist.proofs.InputLaws.{short-input}
 use Rattle.treelist.proofs.main.Goals as goal
 
 pub answer_input-requires : goal.answer_input-requires
-answer_input-requires c = short-input c.fill-came.new.buffer c.fill-came.result.bytes (search rules) c.fill-came.ensures.prefix_len.0
+answer_input-requires c = short-input c.fill.new.buffer c.in-Ok.n (search rules) c.in-Ok.ensures.prefix_len.0

@@ -7,7 +7,7 @@ returns c =
     let a = c.args in
     node-emitted a.work.now c.lay_node.new.words a.s a.at c.count_chain-children.result c.requires
     (rw c.first_of.ensures at c.count_chain-children.ensures)
-    (rw (c.token.ensures, c.token_of-token.ensures) at c.lay_node.ensures)
+    (rw (c.from.ensures, c.token_of-token.ensures) at c.lay_node.ensures)
 
 pub count_chain-children-requires : goal.count_chain-children-requires
 count_chain-children-requires c =

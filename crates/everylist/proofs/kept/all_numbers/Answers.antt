@@ -1,21 +1,14 @@
--- `everylist::kept::all_numbers` meets its contract: the words from i on decide. Assumes nothing.
-use mathlib.Core.Path.{refl}
-use native.Mathlib.Omega.{arith}
-use Rattle.everylist.proofs.{NumberLaws.{number-on, number-off, numbers-all}}
+-- `everylist::kept::all_numbers` meets its contract: the test of each word.
+use Rattle.std.proofs.Common.{rules, ◌∙◌}
+use lib.Dec.{leb}
+use Rattle.std.proofs.lemmas.Iterator.{YieldsList-from_slice}
+use Rattle.std.proofs.lemmas.Iterator.Search.{all_from_yields_List}
+use Rattle.everylist.proofs.NumberLaws.{numbers-listed}
 use Rattle.everylist.proofs.kept.all_numbers.Goals as goal
-
-pub returns-then-words-i-gt-MOST_NUMBER : goal.returns-then-words-i-gt-MOST_NUMBER
-returns-then-words-i-gt-MOST_NUMBER c =
-    number-off c.args.words.now c.loop-i.i c.loop-i.invariant.1 _ refl (omega arith) (omega arith)
-
-pub loop-i-preserved : goal.loop-i-preserved
-loop-i-preserved c =
-    (omega arith, number-on c.args.words.now c.loop-i.i c.loop-i.invariant.1 _ refl (omega arith) (omega arith))
+use borrow.Author.Tests.{tests}
 
 pub returns : goal.returns
 returns c =
-    numbers-all c.args.words.now c.loop-i.i c.loop-i.invariant.1 (omega arith)
-
-pub loop-i-init : goal.loop-i-init
-loop-i-init c =
-    (omega arith, refl)
+    all_from_yields_List (λ w. leb w 65535) _ _ c.all.result c.all.ensures.ran (YieldsList-from_slice c.args.words.now cc)
+    (λ x b q k. search (rules, tests))
+    ∙ numbers-listed c.args.words.now

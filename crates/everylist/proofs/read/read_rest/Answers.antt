@@ -1,36 +1,35 @@
--- `everylist::read::read_rest` meets its contract. The invariant: what came so far is whole words, since every chunk filled the space. The
--- measure is the number of turns that are left. Assumes nothing.
-use mathlib.Core.{Path.{refl, sym, ◌∙◌}, List.{[]}}
-use native.Mathlib.Omega.{arith}
+-- `everylist::read::read_rest` meets its contract: the bytes of the chunks are counted, and their words are looked at.
+use Rattle.std.proofs.Common.{refl, [], ◌≡◌, ◌+◌, ◌%◌, ◌≤◌, length, take, arith}
+use Rattle.std.proofs.lemmas.List.{length-take-le}
 use Rattle.listing.specs.Lists.{words_in}
-use Rattle.everylist.specs.{EveryList.{all_numbers}}
-use Rattle.everylist.proofs.{InputLaws.{rest-on}}
+use Rattle.everylist.specs.EveryList.{all_numbers}
+use Rattle.everylist.proofs.InputLaws.{rest-on}
 use Rattle.everylist.proofs.read.read_rest.Goals as goal
 
-pub loop-turns-init : goal.loop-turns-init
+pub loop-init : goal.loop-init
 unfolding words_in all_numbers
-loop-turns-init g c = (c.requires, omega arith, refl, record { before = []; bytes = refl; fine = refl; room = omega arith })
+loop-init g c = (omega arith, refl, record { before = []; bytes = refl; fine = refl; room = omega arith })
 
-pub loop-turns-preserved : goal.loop-turns-preserved
-loop-turns-preserved g c =
-    let at = c.loop-turns in
-    let on = c.read_on-next.ensures in
-    let size = c.read_on-next.auto.space ∙ at.invariant.0 in
-    let full = rw c.in-Full.is at on.full in
-    (size, omega (arith, on.bytes, full), omega (arith, on.bytes, full, at.invariant.2), (let on = c.read_on-next.ensures in rest-on c.loop-turns.space _ c.loop-turns.rest c.read_on-next.result c.loop-turns.invariant.3 c.loop-turns.invariant.2 (omega (arith, on.bytes, on.few)) on))
+pub and-next-requires : goal.and-next-requires
+and-next-requires g c =
+    let few = c.in-Ok.ensures.prefix_len.0 in
+    omega (arith, few, length-take-le c.in-Ok.last c.fill.new.buffer few)
 
-pub shape_of-space-in_default : goal.shape_of-space-in_default
-shape_of-space-in_default g c =
-    c.read_on-next.auto.space ∙ (c.loop-turns.invariant.0 ∙ sym c.requires)
+pub returns-then-last-space : goal.returns-then-last-space
+returns-then-last-space g c =
+    rest-on c.loop.space _ c.loop.rest _ c.in-Ok.last c.loop.invariant.2 c.loop.invariant.1 c.in-Ok.ensures.prefix_len.0
+    (omega (arith, c.in-Ok.ensures.prefix_len.0))
+    c.and-next.ensures
 
-pub returns-in_default : goal.returns-in_default
-returns-in_default g c =
-    (let on = c.read_on-next.ensures in rest-on c.loop-turns.space _ c.loop-turns.rest c.read_on-next.result c.loop-turns.invariant.3 c.loop-turns.invariant.2 (omega (arith, on.bytes, on.few)) on)
-
-pub shape_of-space : goal.shape_of-space
-shape_of-space g c =
-    c.loop-turns.invariant.0 ∙ sym c.requires
-
-pub returns : goal.returns
-returns g c =
-    c.loop-turns.invariant.3
+pub loop-preserved : goal.loop-preserved
+loop-preserved g c =
+    let few : c.in-Ok.last ≤ length c.fill.new.buffer = c.in-Ok.ensures.prefix_len.0 in
+    let came : length (take c.in-Ok.last c.fill.new.buffer) ≡ c.in-Ok.last = length-take-le c.in-Ok.last c.fill.new.buffer few in
+    let bytes : c.and-next.result.bytes ≡ c.loop.rest.bytes + length (take c.in-Ok.last c.fill.new.buffer) = c.and-next.ensures.bytes in
+    let whole : c.loop.rest.bytes % 4 ≡ 0 = c.loop.invariant.1 in (
+      omega arith,
+      omega arith,
+      rest-on c.loop.space _ c.loop.rest _ c.in-Ok.last c.loop.invariant.2 c.loop.invariant.1 c.in-Ok.ensures.prefix_len.0
+          (omega (arith, c.in-Ok.ensures.prefix_len.0))
+          c.and-next.ensures,
+    )

@@ -1,14 +1,7 @@
--- `everylist::read::read_rest` meets its contract. The invariant: what came so far is whole words, since every chunk filled the space. The
-use Prim.Native.Nat.{◌+◌, ◌*◌, ◌%◌, ◌≤◌}
-use mathlib.Core.{Path.{◌≡◌}}
-use lib.ListN.{length}
-use Rattle.everylist.specs.{Input.{RestRead}}
+-- `everylist::read::read_rest`: what came so far is whole words, since every chunk filled the space; 65,536 bytes a turn.
+use Rattle.std.proofs.Common.{◌≡◌, ◌*◌, ◌%◌, ◌≤◌}
+use Rattle.everylist.specs.Input.{RestRead}
 use Rattle.everylist.proofs.read.read_rest.Given as goal
 
-abbrev pub invariant-loop-turns : goal.invariant-loop-turns
-invariant-loop-turns g l =
-    (length l.space ≡ 65536) × (l.rest.bytes + 65536 * l.turns ≤ 72057594037927936) × (l.rest.bytes % 4 ≡ 0) × RestRead l.space l.rest
-
-abbrev pub decreases-loop-turns : goal.decreases-loop-turns
-decreases-loop-turns g l =
-    l.turns
+abbrev pub invariant-loop : goal.invariant-loop
+invariant-loop g l = (l.rest.bytes ≤ 65536 * l.counter) × (l.rest.bytes % 4 ≡ 0) × RestRead l.space l.rest

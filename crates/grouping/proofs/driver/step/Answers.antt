@@ -6,33 +6,19 @@ use borrow.Enum.Refused.{opened}
 
 pub array_on-requires : goal.array_on-requires
 array_on-requires c =
-    let array = turn-waiting c.args.walk.list c.args.walk.pass _ c.waiting-waiting.ensures c.if-waiting-ne0.true c.requires in
-    (turn_at c.args.walk.list c.args.walk.pass _ array c.requires, c.if-waiting-ne0.true)
+    let array = turn-waiting c.args.walk.list c.args.walk.pass _ c.in-Some.ensures c.requires in
+    (turn_at c.args.walk.list c.args.walk.pass _ array.0 c.requires, array.1)
 
-pub returns-then-waiting-ne0 : goal.returns-then-waiting-ne0
-returns-then-waiting-ne0 c =
-    let array =
-    turn-waiting c.args.walk.list c.args.walk.pass _ c.waiting-waiting.ensures c.if-waiting-ne0.true
-    c.requires in
-    turned_by c.args.walk.list c.args.walk.pass _ array c.array_on.ensures
-
-pub step-requires : goal.step-requires
-step-requires c =
-    turn_at c.args.walk.list c.args.walk.pass _ c.in-Split.is c.requires
-
-pub step-requires-in-Unary : goal.step-requires-in-Unary
-step-requires-in-Unary c =
-    turn_at c.args.walk.list c.args.walk.pass _ c.in-Unary.is c.requires
-
-pub step-requires-in-Conditional : goal.step-requires-in-Conditional
-step-requires-in-Conditional c =
-    turn_at c.args.walk.list c.args.walk.pass _ c.in-Conditional.is c.requires
+pub returns-in-Some : goal.returns-in-Some
+returns-in-Some c =
+    turned_by c.args.walk.list c.args.walk.pass _ (turn-waiting c.args.walk.list c.args.walk.pass _ c.in-Some.ensures c.requires).0
+    c.array_on.ensures
 
 pub seek-requires : goal.seek-requires
 seek-requires c =
     let same = sym c.anew.ensures in
-    let none = sym c.waiting-waiting.ensures ∙ c.if-waiting-ne0.false in
-    let seeks = seeks-at c.args.walk.pass (opened c.in_default.in_default-own.keys4) none c.requires in
+    let none = sym c.waiting.ensures ∙ c.in_default.is in
+    let seeks = seeks-at c.args.walk.pass (opened c.in_default-pass.in_default-pass-own.keys4) none c.requires in
     (turn_at c.args.walk.list c.args.walk.pass _ same c.requires, subst Seeks same seeks)
 
 pub returns-in-Split : goal.returns-in-Split
@@ -50,7 +36,7 @@ returns-in-Conditional c =
     turned_by c.args.walk.list c.args.walk.pass _ c.in-Conditional.is
     c.step-in-Conditional.ensures
 
-pub returns-in_default : goal.returns-in_default
-returns-in_default c =
+pub returns-in_default-pass : goal.returns-in_default-pass
+returns-in_default-pass c =
     turned_by c.args.walk.list c.args.walk.pass _ (sym c.anew.ensures)
     c.seek.ensures

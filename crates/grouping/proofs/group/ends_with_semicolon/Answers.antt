@@ -6,7 +6,7 @@ use Rattle.grouping.proofs.FlatOrder.{last-token, last-unused, last-missing, las
 use Rattle.grouping.proofs.group.ends_with_semicolon.Goals as goal
 
 pub returns-then-n-eq0 : goal.returns-then-n-eq0
-returns-then-n-eq0 c = unfold runs in last-missing (sym c.has_either.ensures ∙ c.if-has_either.true) c.if-n-eq0.true
+returns-then-n-eq0 c = unfold runs in last-missing (sym c.has_any.ensures ∙ c.if-has_any.true) c.if-n-eq0.true
 
 pub bounds-work-base : goal.bounds-work-base
 bounds-work-base c = let g = c.requires in omega (arith, g.based, g.room, c.if-n-eq0.false)
@@ -19,14 +19,14 @@ operator_of-requires c =
 pub returns-then-operator_of-ne-SEMICOLON : goal.returns-then-operator_of-ne-SEMICOLON
 unfolding runs
 returns-then-operator_of-ne-SEMICOLON c =
-    last-other (sym c.has_either.ensures ∙ c.if-has_either.true)
+    last-other (sym c.has_any.ensures ∙ c.if-has_any.true)
     c.if-n-eq0.false
     (λ e. c.if-operator_of-ne-SEMICOLON.true (c.operator_of.ensures ∙ e))
 
 pub returns-else-operator_of-ne-SEMICOLON : goal.returns-else-operator_of-ne-SEMICOLON
 unfolding runs
 returns-else-operator_of-ne-SEMICOLON c =
-    last-semicolon (sym c.has_either.ensures ∙ c.if-has_either.true)
+    last-semicolon (sym c.has_any.ensures ∙ c.if-has_any.true)
     c.if-n-eq0.false
     (sym c.operator_of.ensures ∙ c.if-operator_of-ne-SEMICOLON.false)
 
@@ -42,6 +42,6 @@ pub offset_bounds-work-base : goal.offset_bounds-work-base
 offset_bounds-work-base c =
     let g = c.requires in omega (arith, g.based, g.room, g.small)
 
-pub returns-else-has_either : goal.returns-else-has_either
-returns-else-has_either c =
-    unfold runs in last-unused (sym c.has_either.ensures ∙ c.if-has_either.false)
+pub returns-else-has_any : goal.returns-else-has_any
+returns-else-has_any c =
+    unfold runs in last-unused (sym c.has_any.ensures ∙ c.if-has_any.false)

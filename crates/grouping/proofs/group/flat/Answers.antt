@@ -1,34 +1,22 @@
 -- `group::flat` meets its contract.
-use Rattle.grouping.proofs.FlatOrder.{group-joins, group-sections, fallen, joined_items, flat-unended, flat-unjoined, flat-sectioned}
+use Rattle.std.proofs.lemmas.Result.{err_from_is_err_and}
+use Rattle.grouping.proofs.FlatOrder.{group-sections, flat-unended, flat-unjoined, flat-sectioned}
 use Rattle.grouping.proofs.group.flat.Goals as goal
-use borrow.Enum.Refused.{opened}
 
-pub returns-in_default : goal.returns-in_default
-returns-in_default c = let x = c.ends_with_semicolon-ends in flat-unended x.result (fallen x.result (opened c.in_default.in_default-own.keys2)) x.ensures
+pub returns-in_err-ends_with_semicolon : goal.returns-in_err-ends_with_semicolon
+returns-in_err-ends_with_semicolon c =
+    let p = err_from_is_err_and c.from_residual.result c.from_residual.ensures.1 in
+    rw (p.1, p.2) (flat-unended c.in_err-ends_with_semicolon.field-0.0 c.in_err-ends_with_semicolon.ensures)
 
-pub returns-in_default-joined : goal.returns-in_default-joined
-returns-in_default-joined c =
-    let x = c.ends_with_semicolon-ends in
-    let y = c.members_if_used-joined in
-    flat-unjoined x.result c.in-Done.in-Done-own.keys1 x.ensures y.result
-    (fallen y.result (opened c.in_default-joined.in_default-joined-own.keys2)) y.ensures
+pub returns-in_err-m : goal.returns-in_err-m
+returns-in_err-m c =
+    let p = err_from_is_err_and c.from_residual-in_err-m.result c.from_residual-in_err-m.ensures.1 in
+    rw (p.1, p.2) (flat-unjoined c.in_ok-ends_with_semicolon.ensures c.in_err-m.field-0.0 c.in_err-m.ensures)
 
 pub sections_if_used-requires : goal.sections_if_used-requires
 sections_if_used-requires c =
-    let y = c.members_if_used-joined in
-    group-sections c.requires
-    (joined_items y.result c.in-Done-joined.is y.ensures)
+    group-sections c.requires c.in_ok-m.ensures
 
 pub returns : goal.returns
 returns c =
-    let x =
-    c.ends_with_semicolon-ends in
-    let y = c.members_if_used-joined in
-    let z = c.sections_if_used in
-    flat-sectioned x.result
-    c.in-Done.in-Done-own.keys1 x.ensures
-    (joined_items y.result c.in-Done-joined.is y.ensures) z.result z.ensures
-
-pub members_if_used-joined-requires : goal.members_if_used-joined-requires
-members_if_used-joined-requires c =
-    group-joins c.requires
+    flat-sectioned c.in_ok-ends_with_semicolon.ensures c.in_ok-m.ensures c.sections_if_used.result c.sections_if_used.ensures

@@ -4,7 +4,7 @@ use Rattle.held.proofs.faults.count_fault.Goals as goal
 
 pub returns-then-held-ge-LAST_COUNT : goal.returns-then-held-ge-LAST_COUNT
 returns-then-held-ge-LAST_COUNT c =
-    count-last c.args.held c.if-held-ge-LAST_COUNT.true
+    rw c.at.ensures (count-last c.args.held c.if-held-ge-LAST_COUNT.true)
 
 pub returns : goal.returns
 returns c =

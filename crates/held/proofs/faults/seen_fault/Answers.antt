@@ -6,7 +6,7 @@ use Rattle.held.proofs.faults.seen_fault.Goals as goal
 
 pub returns-then-seen-held : goal.returns-then-seen-held
 returns-then-seen-held c =
-    let a = c.args in seen_other (state a.held []) a.seen c.if-seen-held.true
+    let a = c.args in rw c.at.ensures (seen_other (state a.held []) a.seen c.if-seen-held.true)
 
 pub returns : goal.returns
 returns c =

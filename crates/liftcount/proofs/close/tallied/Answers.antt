@@ -13,7 +13,3 @@ returns-in-One c = rw (c.in-One.is, c.one_more.ensures, c.one_more-in-One.ensure
 
 pub returns-in-Both : goal.returns-in-Both
 returns-in-Both c = rw (c.in-Both.is, c.one_more.ensures, c.one_more-in-Both.ensures) refl
-
-pub returns-in-Refused : goal.returns-in-Refused
-returns-in-Refused c =
-    rw c.in-Refused.is refl

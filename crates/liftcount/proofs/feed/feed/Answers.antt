@@ -5,14 +5,13 @@ use native.Mathlib.Omega.{arith}
 use lib.{ListN.{length, take, drop}, Seq.{length-take-le}}
 use Rattle.liftcount.specs.Running.{State, state_of, fed}
 use Rattle.liftcount.proofs.{FeedLaws.{chunk-parts}}
-use borrow.Author.Rules.{rules}
 use Rattle.liftcount.proofs.feed.feed.Goals as goal
 
 pub feed_words-then-requires : goal.feed_words-then-requires
 feed_words-then-requires c =
     let chunk = c.args.chunk.now in
     let size = length-take-le (length chunk / 4 * 4) chunk (omega arith) in
-    record { held_value = (c.if-held-ne0.false, omega (arith, size)); list_len = c.requires; scratch = search rules }
+    record { held_value = (c.if-held-ne0.false, omega (arith, size)) }
 
 pub returns : goal.returns
 returns c =

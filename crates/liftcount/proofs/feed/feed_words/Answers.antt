@@ -1,43 +1,42 @@
--- `liftcount::feed::feed_words` meets its contract. The invariant: no word has begun, and the bytes from `at` on lead from here to where
--- all lead. Assumes nothing.
-use Prim.Native.Nat.{ℕ, ◌+◌, ◌≤◌}
-use mathlib.Core.Path.{refl, ap, sym, ◌∙◌}
+-- `liftcount::feed::feed_words` meets its contract: whole words, one after the other. Assumes nothing.
+use Prim.Native.Nat.{ℕ}
+use mathlib.Core.{Path.{◌≡◌, refl, ap, sym, ◌∙◌}}
 use native.Mathlib.Omega.{arith}
 use borrow.Author.Rules.{rules}
-use lib.ListN.{length, drop}
+use lib.ListN.{length, length-append}
 use Rattle.liftcount.specs.{Running.{State, state_of, word_taken, fed}, Steps.{after_word}}
-use Rattle.liftcount.proofs.{FeedLaws.{word_on, fed-end, scratch-kept}}
+use Rattle.liftcount.proofs.FeedLaws.{word_on, none-left}
 use Rattle.liftcount.proofs.feed.feed_words.Goals as goal
 
-pub loop-at-init : goal.loop-at-init
-loop-at-init c =
-    (omega arith, refl, c.requires.held_value.0, search rules, c.requires.list_len, c.requires.scratch, refl)
+pub loop-word-init : goal.loop-word-init
+loop-word-init c =
+    let items = c.chunks_exact-word-items.ensures in
+    rw (c.into_iter-word-iterator.ensures.into_iter_gives, items.rest) (items.size, c.requires.held_value.1, c.requires.held_value.0, search rules, refl)
 
-pub take_word-then-requires : goal.take_word-then-requires
-take_word-then-requires c =
-    let at = c.loop-at in
-    record { list_len = at.invariant.4; scratch = at.invariant.5 }
-
-pub loop-at-preserved : goal.loop-at-preserved
-loop-at-preserved c =
-    let took = c.take_word-then in
-    let at = c.loop-at in
-    let run = at.then in
-    let bytes = c.args.bytes.now in
-    let room : at.at + 4 ≤ length bytes = omega (arith, c.loop-at-test.true) in
-    let whole = took.ensures ∙ ap (λ (w : ℕ). after_word (word_taken run.stage run.counts at.list w)) c.word_of-w.ensures in (
-      omega (arith, room),
-      omega (arith, at.invariant.1),
+pub loop-word-preserved : goal.loop-word-preserved
+loop-word-preserved c =
+    let at = c.loop-word in
+    let x = c.in-Some.word.now in
+    let later = c.next.new.self.rest.now in
+    let s = c.in-Some.ensures.steps in
+    let next = s.1 in
+    let four : length x ≡ 4 = next.1 ∙ at.invariant.0 in
+    let whole =
+    c.take_word-then.ensures
+    ∙ ap (λ (w : ℕ). after_word (word_taken (state_of at.then at.list).progress.stage at.then.counts at.list w)) c.word_of-w.ensures
+    in (
+      s.0 ∙ at.invariant.0,
+      omega (arith, at.invariant.1, four, ap length next.0, length-append x later),
       ap (λ (s : State). s.held) whole,
       omega (arith, ap (λ (s : State). s.partial) whole),
-      omega (arith, took.auto.list, at.invariant.4),
-      scratch-kept at.invariant.5 took.auto.tree took.auto.again took.auto.messages took.auto.work,
-      ap (λ (s : State). fed s (drop (at.at + 4) bytes)) whole
-          ∙ sym (word_on (state_of run at.list) bytes at.at at.invariant.2 at.invariant.3 room)
-          ∙ at.invariant.6,
+      ap (λ (s : State). fed s later) whole
+          ∙ sym (word_on (state_of at.then at.list) x later at.invariant.2 at.invariant.3 four)
+          ∙ ap (fed (state_of at.then at.list)) (sym next.0)
+          ∙ at.invariant.4,
     )
 
 pub returns : goal.returns
 returns c =
-    let at = c.loop-at in
-    sym (fed-end (state_of at.then at.list) c.args.bytes.now at.at (omega (arith, c.requires.held_value.1))) ∙ at.invariant.6
+    let at = c.loop-word in
+    let short = c.in-None.ensures.steps.1.0 in
+    sym (none-left (state_of at.then at.list) at.word-iterator.rest.now at.invariant.1 (omega (arith, short, at.invariant.0))) ∙ at.invariant.4

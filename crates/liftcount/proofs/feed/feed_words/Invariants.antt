@@ -1,20 +1,14 @@
--- `liftcount::feed::feed_words` meets its contract. The invariant: no word has begun, and the bytes from `at` on lead from here to where
-use Prim.Native.Nat.{◌-◌, ◌%◌, ◌^◌, ◌≤◌, ◌<◌}
+-- `liftcount::feed::feed_words`: no word has begun, and the bytes that are left lead from here to where all lead.
+use Prim.Native.Nat.{◌%◌, ◌^◌, ◌<◌}
 use mathlib.Core.Path.{◌≡◌}
-use lib.ListN.{length, drop}
-use Rattle.liftcount.specs.{Running.{state_of, fed}, Judging.{Scratch}}
+use lib.ListN.{length}
+use Rattle.liftcount.specs.Running.{state_of, fed}
 use Rattle.liftcount.proofs.feed.feed_words.Given as goal
 
-abbrev pub invariant-loop-at : goal.invariant-loop-at
-invariant-loop-at l =
-    (l.at ≤ length l.bytes)
-    × (l.at % 4 ≡ 0)
+abbrev pub invariant-loop-word : goal.invariant-loop-word
+invariant-loop-word l =
+    (l.word-iterator.size ≡ 4)
+    × (length l.word-iterator.rest.now % 4 ≡ 0)
     × (l.then.held ≡ 0)
     × (l.then.partial < 2 ^ 32)
-    × (length l.list ≡ 640)
-    × Scratch l.tree l.again l.messages l.work
-    × (fed (state_of l.then l.list) (drop l.at l.bytes) ≡ fed (state_of l.initial.then l.initial.list) l.bytes)
-
-abbrev pub decreases-loop-at : goal.decreases-loop-at
-decreases-loop-at l =
-    length l.bytes - l.at
+    × (fed (state_of l.then l.list) l.word-iterator.rest.now ≡ fed (state_of l.initial.then l.initial.list) l.bytes)

@@ -1,16 +1,16 @@
 -- `liftcount::step::after_second` meets its contract. Assumes nothing.
-use mir.Syntax.{w16}
-use mathlib.Core.Path.{◌∙◌}
-use mir.Facts.{to_z-of_z}
-use Rattle.liftcount.proofs.{StepLaws.{second-version, second-fault}}
+use mir.{Syntax.{w16}, Facts.{to_z-of_z}}
+use Rattle.std.proofs.lemmas.Result.{err_from_is_err_and}
+use Rattle.liftcount.proofs.{StepLaws.{second-leads}}
 use Rattle.liftcount.proofs.step.after_second.Goals as goal
 
-pub returns-then-w-lt-PAST_VERSIONS : goal.returns-then-w-lt-PAST_VERSIONS
-returns-then-w-lt-PAST_VERSIONS c counts list =
-    let version = to_z-of_z {w = w16} {z = c.version_of.result} (record { sfits = c.version_of.type_inv }) ∙ c.version_of.ensures in
-    rw (to_z-of_z c.ranges.from)
-    (second-version counts list c.args.w c.args.from c.if-w-lt-PAST_VERSIONS.true version)
+pub returns-in_err-to : goal.returns-in_err-to
+returns-in_err-to c counts list =
+    let p = err_from_is_err_and c.from_residual.result c.from_residual.ensures.1 in
+    rw (p.1, p.2)
+    (second-leads counts list c.args.w c.args.from c.in_err-to.ensures)
 
 pub returns : goal.returns
 returns c counts list =
-    second-fault counts list c.args.w c.args.from c.if-w-lt-PAST_VERSIONS.false
+    rw (to_z-of_z c.ranges.from, to_z-of_z {w = w16} {z = c.in_ok-to.to} (record { sfits = c.in_ok-to.known_told-1-own.given.0.1 }))
+    (second-leads counts list c.args.w c.args.from c.in_ok-to.ensures)

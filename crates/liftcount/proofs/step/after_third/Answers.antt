@@ -11,4 +11,5 @@ returns-then-kind-eq0 c counts list =
 
 pub returns : goal.returns
 returns c counts list =
-    third-fault counts list c.args.w c.args.from c.args.to (λ e. c.if-kind-eq0.false (c.kind.ensures ∙ e))
+    rw c.at.ensures
+    (third-fault counts list c.args.w c.args.from c.args.to (λ e. c.if-kind-eq0.false (c.kind.ensures ∙ e)))

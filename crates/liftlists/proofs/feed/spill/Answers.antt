@@ -14,4 +14,4 @@ returns-then-hand g c =
 
 pub slice_bounds-hand-end : goal.slice_bounds-hand-end
 slice_bounds-hand-end g c =
-    sym (length-take-le _ _ c.requires.0)
+    sym (length-take-le _ _ (omega (arith, c.requires.0)))

@@ -3,5 +3,4 @@ use Rattle.liftlists.specs.LiftedFile.{bytes_of}
 use Rattle.liftlists.proofs.put.put_word.Goals as goal
 
 pub returns : goal.returns
-returns c =
-    unfold bytes_of in c.put_bytes.ensures
+returns c = unfold bytes_of in rw c.to_le_bytes.ensures at c.put_bytes.ensures

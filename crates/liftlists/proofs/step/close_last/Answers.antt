@@ -9,8 +9,14 @@ use Rattle.liftlists.proofs.step.close_last.Goals as goal
 pub close-requires : goal.close-requires
 close-requires c =
     let kept : ListHeld c.in-InList.opener c.in-InList.n c.args.list.now = rw c.in-InList.is at c.requires.fine in
-    let h = kept in
-    record { list_len_bound = (omega (arith, length-take-le c.in-InList.n c.args.list.now (omega (arith, kept.few, c.requires.list_len.0)), h.few), h.version, c.requires.list_len.1, c.requires.list_len.2); lift_scratch = c.requires.lift_scratch }
+    record {
+      list_len_bound = (
+        omega (arith, length-take-le c.in-InList.n c.args.list.now (omega (arith, kept.few)), kept.few),
+        kept.version,
+        c.requires.list_len.0,
+        c.requires.list_len.1,
+      );
+    }
 
 pub returns-in-InList-clause-upper_bound : goal.returns-in-InList-clause-upper_bound
 returns-in-InList-clause-upper_bound c = c.close.ensures.upper_bound

@@ -7,16 +7,16 @@ use Rattle.liftlists.proofs.step.keep.Goals as goal
 pub returns-then-n-lt-MOST_WORDS : goal.returns-then-n-lt-MOST_WORDS
 returns-then-n-lt-MOST_WORDS c =
     let a = c.args in
-    λ to. kept-took a.opener a.n a.list.now c.requires.list_held c.requires.list_len.0 a.w to a.out.now a.at c.requires.list_len.2
+    λ to. kept-took a.opener a.n a.list.now c.requires.list_held (omega arith) a.w to a.out.now a.at c.requires.list_len.1
     c.if-n-lt-MOST_WORDS.true
 
 pub put_word-end-requires : goal.put_word-end-requires
 put_word-end-requires c =
     let a = c.args in
-    omega (arith, c.put_list-listed.ensures.ends, c.put_list-listed.auto.out, bytes-length (a.opener ∷ a.list.now), c.requires.list_len.0, c.requires.list_len.1)
+    omega (arith, c.put_list-listed.ensures.ends, bytes-length (a.opener ∷ a.list.now), c.requires.list_len.0)
 
 pub returns : goal.returns
 returns c =
     let a = c.args in
-    λ to. long-took a.opener a.n a.list.now c.requires.list_held c.requires.list_len.0 a.w to c.requires.list_len.2
-    c.if-n-lt-MOST_WORDS.false (omega (arith, c.requires.list_len.1)) c.put_list-listed.ensures c.put_word-end.ensures
+    λ to. long-took a.opener a.n a.list.now c.requires.list_held (omega arith) a.w to c.requires.list_len.1
+    c.if-n-lt-MOST_WORDS.false (omega (arith, c.requires.list_len.0)) c.put_list-listed.ensures c.put_word-end.ensures

@@ -9,7 +9,7 @@ use Rattle.liftlists.proofs.step.take_word.Goals as goal
 pub keep-requires : goal.keep-requires
 keep-requires c =
     let kept : ListHeld c.in-InList.opener c.in-InList.n c.args.list.now = rw c.in-InList.is at c.requires.fine in
-    record { list_len = (c.requires.list_len.0, c.requires.list_len.2, λ e. c.if-kind-ne0.true (c.kind.ensures ∙ e)); list_held = kept }
+    record { list_len = (c.requires.list_len.1, λ e. c.if-kind-ne0.true (c.kind.ensures ∙ e)); list_held = kept }
 
 pub returns-then-kind-ne0 : goal.returns-then-kind-ne0
 returns-then-kind-ne0 c =
@@ -18,8 +18,14 @@ returns-then-kind-ne0 c =
 pub close-end-requires : goal.close-end-requires
 close-end-requires c =
     let kept : ListHeld c.in-InList.opener c.in-InList.n c.args.list.now = rw c.in-InList.is at c.requires.fine in
-    let h = kept in
-    record { list_len_bound = (omega (arith, length-take-le c.in-InList.n c.args.list.now (omega (arith, kept.few, c.requires.list_len.0)), h.few), h.version, c.requires.list_len.1, omega (arith, c.requires.list_len.2)); lift_scratch = c.requires.lift_scratch }
+    record {
+      list_len_bound = (
+        omega (arith, length-take-le c.in-InList.n c.args.list.now (omega (arith, kept.few)), kept.few),
+        kept.version,
+        c.requires.list_len.0,
+        omega (arith, c.requires.list_len.1),
+      );
+    }
 
 pub returns-in-Passing : goal.returns-in-Passing
 returns-in-Passing c =
@@ -31,5 +37,5 @@ returns-else-kind-ne0 c =
     let kept : ListHeld c.in-InList.opener c.in-InList.n c.args.list.now = rw c.in-InList.is at c.requires.fine in
     let a = c.args in
     rw c.in-InList.is
-    (closed-took _ _ a.list.now kept c.requires.list_len.0 a.w a.to (sym c.kind.ensures ∙ c.if-kind-ne0.false)
-    (omega (arith, c.requires.list_len.2)) c.close-end.ensures.upper_bound c.close-end.ensures.wrote (c.pass-in-InList.ensures a.to a.list.now))
+    (closed-took _ _ a.list.now kept (omega arith) a.w a.to (sym c.kind.ensures ∙ c.if-kind-ne0.false)
+    (omega (arith, c.requires.list_len.1)) c.close-end.ensures.upper_bound c.close-end.ensures.wrote (c.pass-in-InList.ensures a.to a.list.now))

@@ -5,7 +5,3 @@ use Rattle.nodes.proofs.children.give_children.Given as goal
 abbrev pub invariant-loop-i : goal.invariant-loop-i
 invariant-loop-i l =
     Giving l.initial.work l.parent l.from l.n l.work l.i l.head l.below.0
-
-abbrev pub decreases-loop-i : goal.decreases-loop-i
-decreases-loop-i l =
-    l.i

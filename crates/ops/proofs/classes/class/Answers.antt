@@ -1,12 +1,13 @@
 -- `ops::classes::class` meets its contract: the table's entry at an operator, and no class at any other number. Assumes nothing.
-use borrow.Author.Rules.{rules}
+use mathlib.Core.Path.{◌∙◌}
+use native.Mathlib.Omega.{arith}
 use Rattle.ops.proofs.{ClassLaws.{entry_at, entry_past}}
 use Rattle.ops.proofs.classes.class.Goals as goal
 
-pub returns-then-op-ge-COUNT : goal.returns-then-op-ge-COUNT
-returns-then-op-ge-COUNT c =
-    entry_past c.args.table.now c.args.op (search rules)
+pub returns-in-Some : goal.returns-in-Some
+returns-in-Some c =
+    let found = c.in-Some.ensures.lookup.3 in
+    found.1 0 ∙ entry_at c.args.table.now c.args.op (omega (arith, found.0, c.told-table))
 
-pub returns : goal.returns
-returns c =
-    entry_at c.args.table.now c.args.op (search rules)
+pub returns-in-None : goal.returns-in-None
+returns-in-None c = entry_past c.args.table.now c.args.op (omega (arith, c.in-None.ensures.lookup.3, c.told-table))

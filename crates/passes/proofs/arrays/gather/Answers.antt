@@ -1,10 +1,6 @@
 -- `gather`: its loop turns the chain of the index's children onto the array's (ArrayChain).
-use native.Mathlib.Omega.{arith}
 use Rattle.passes.proofs.ArrayChain.{gather-start, gather-in, gather-step, gather-done, gather-falls}
 use Rattle.passes.proofs.arrays.gather.Goals as goal
-
-pub first_of-s-requires : goal.first_of-s-requires
-first_of-s-requires c = omega (arith, c.requires.from, c.requires.within)
 
 pub next_of-next-requires : goal.next_of-next-requires
 next_of-next-requires c =
@@ -29,15 +25,6 @@ loop-s-preserved c =
     c.loop-s-test.true c.set_next.ensures
     c.next_of-next.ensures
 
-pub set_first-requires : goal.set_first-requires
-set_first-requires c =
-    omega (
-      arith,
-      c.requires.own,
-      c.requires.within,
-      c.loop-s.invariant.long,
-    )
-
 pub shape_of-work : goal.shape_of-work
 shape_of-work c =
     (gather-done c.loop-s.invariant _ c.loop-s-test.false
@@ -47,10 +34,6 @@ pub returns : goal.returns
 returns c =
     gather-done c.loop-s.invariant _ c.loop-s-test.false
     c.set_first.ensures
-
-pub first_of-head-requires : goal.first_of-head-requires
-first_of-head-requires c =
-    omega (arith, c.requires.own, c.requires.within)
 
 pub loop-s-init : goal.loop-s-init
 loop-s-init c =

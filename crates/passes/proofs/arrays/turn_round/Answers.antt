@@ -40,20 +40,6 @@ loop-s-preserved c =
     c.next_of-next.ensures
     (λ b. c.union-below.ensures b ∙ ap (λ (w : ℕ). bit_at c.loop-s.below.0 b || bit_at w b) c.classes_of.ensures)
 
-pub set_first-requires : goal.set_first-requires
-set_first-requires c =
-    omega (arith, c.requires.own, c.requires.within, c.loop-s.invariant.long)
-
-pub set_classes-requires : goal.set_classes-requires
-set_classes-requires c =
-    omega (
-      arith,
-      c.requires.own,
-      c.requires.within,
-      c.loop-s.invariant.long,
-      c.set_first.auto.work,
-    )
-
 pub shape_of-work : goal.shape_of-work
 shape_of-work c =
     (round-done c.loop-s.invariant _ _ c.loop-s-test.false c.set_first.ensures c.set_classes.ensures).long
@@ -61,10 +47,6 @@ shape_of-work c =
 pub returns : goal.returns
 returns c =
     round-done c.loop-s.invariant _ _ c.loop-s-test.false c.set_first.ensures c.set_classes.ensures
-
-pub first_of-s-requires : goal.first_of-s-requires
-first_of-s-requires c =
-    omega (arith, c.requires.own, c.requires.within)
 
 pub loop-s-init : goal.loop-s-init
 loop-s-init c =

@@ -1,6 +1,6 @@
 -- `called`: the call is entered, or done (CallLaws).
 use native.Mathlib.Omega.{arith}
-use Rattle.passes.proofs.{GatherLaws.{token-room}, CallLaws.{can-attach, shares_as, called-opens, called-stays}}
+use Rattle.passes.proofs.{CallLaws.{can-attach, shares_as, called-opens, called-stays}}
 use Rattle.passes.proofs.calls.called.Goals as goal
 
 pub classes_of-requires : goal.classes_of-requires
@@ -18,15 +18,6 @@ returns-then-intersects c =
     (shares_as c.intersects.ensures c.classes_of.ensures
     c.classes-classes.ensures c.if-intersects.true)
     c.past-after.ensures c.enter.ensures
-
-pub keep-requires : goal.keep-requires
-keep-requires c =
-    rw c.past-after.ensures
-    (omega (
-      arith,
-      token-room c.requires.token,
-      c.attach.ensures.long,
-    ))
 
 pub returns : goal.returns
 returns c =

@@ -1,70 +1,23 @@
--- `passes::conditional::dangling` meets its contract.
+-- `dangling`: the first item that dangles, or none (ConditionalDangling).
 use mathlib.Core.Path.{sym, ◌∙◌}
-use Prim.Native.Nat.{◌+◌, ◌^◌, ◌≤◌, ◌<◌}
-use native.Mathlib.Omega.{arith}
-use lib.ListN.{length}
-use Rattle.nodes.specs.Store.{wd, slot_end}
-use Rattle.passes.proofs.ConditionalDangling.{dangle-start, dangle-in, dangle-next, dangles-if, dangles-else, dangles-none}
+use Rattle.std.proofs.Common.{rules, tests}
+use Rattle.std.proofs.lemmas.Iterator.{YieldsList-from_slice}
+use Rattle.std.proofs.lemmas.Iterator.Adapters.{serves_from_places, option_map_id}
+use Rattle.std.proofs.lemmas.Iterator.Consumers.{YieldsList-at, YieldsList-from_copied}
+use Rattle.std.proofs.lemmas.Iterator.Search.{find_from_yields_List}
+use Rattle.passes.proofs.ConditionalDangling.{dangles_at, dangle-slot, dangles}
 use Rattle.passes.proofs.conditional.dangling.Goals as goal
-use Rattle.passes.proofs.conditional.dangling.Lts as lts
-use Rattle.passes.proofs.conditional.dangling.Tie as tie
-use Rattle.passes.proofs.conditional.dangling.Reads as reads
 
-bounds : (c : (lts.In-loop tie.the-claims reads.Pre reads.Post goal.the-invariant-loop-i goal.the-decreases-loop-i)) → let a = c.args in let at = a.base + c.loop-i.i in
-    (at < length a.work.now) × (slot_end (wd a.work.now at) ≤ length a.work.now) × (length a.work.now < 2 ^ 32)
-bounds c = let v = c.loop-i.invariant in dangle-in v.1 v.0 c.loop-i-test.true
-
-pub returns-then-is_token : goal.returns-then-is_token
-returns-then-is_token c =
-    dangles-if c.loop-i.invariant.1 c.loop-i-test.true
-    (sym c.is_token.ensures ∙ c.if-is_token.true)
-
-pub returns-then-is_token-2 : goal.returns-then-is_token-2
-returns-then-is_token-2 c =
-    dangles-else c.loop-i.invariant.1
-    c.loop-i-test.true (sym c.is_token-in-loop-i.ensures ∙ c.if-is_token-2.true)
-
-pub loop-i-preserved : goal.loop-i-preserved
-loop-i-preserved c = (
-  c.loop-i.invariant.0,
-  dangle-next
-      c.loop-i.invariant.1 c.loop-i-test.true
-      (sym c.is_token.ensures ∙ c.if-is_token.false)
-      (sym c.is_token-in-loop-i.ensures ∙ c.if-is_token-2.false),
-)
-
-pub loop-i-init : goal.loop-i-init
-loop-i-init c =
-    (c.requires, dangle-start)
-
-pub overflow_add-item : goal.overflow_add-item
-overflow_add-item c =
-    let b = bounds c.before in omega arith
-
-pub offset_bounds-work-base : goal.offset_bounds-work-base
-offset_bounds-work-base c =
-    let b = bounds c.before in omega arith
-
-pub bounds-work-base : goal.bounds-work-base
-bounds-work-base c =
-    (bounds c.before.before).0
-
-pub is_token-requires : goal.is_token-requires
-is_token-requires c =
-    (bounds c.before.before).1
-
-pub is_token-requires-in-loop-i : goal.is_token-requires-in-loop-i
-is_token-requires-in-loop-i c =
-    (bounds c.before.before.before.before).1
-
-pub overflow_add-i : goal.overflow_add-i
-overflow_add-i c =
-    let b = bounds c.before.before.before.before.before.before in omega arith
-
-pub loop-i-smaller : goal.loop-i-smaller
-loop-i-smaller c =
-    let h = c.loop-i-test.true in omega arith
+pub find-requires-clause-callable : goal.find-requires-clause-callable
+find-requires-clause-callable c =
+    serves_from_places
+    (YieldsList-from_copied (YieldsList-at c.copied.ensures.source (YieldsList-from_slice _ c.iter.ensures.rest)))
+    (λ x q k. search (rules, tests)) (λ x k h e y s. search (dangle-slot c.requires k x h e y.now s))
 
 pub returns : goal.returns
 returns c =
-    dangles-none c.loop-i.invariant.1 (omega (arith, c.loop-i-test.false))
+    let e =
+    find_from_yields_List (dangles_at c.args.work.now) _ _ c.find.result c.find.ensures.ran
+    (YieldsList-from_copied (YieldsList-at c.copied.ensures.source (YieldsList-from_slice _ c.iter.ensures.rest)))
+    (λ x b q k. search (rules, tests)) in
+    rw (sym (option_map_id c.find.result) ∙ e) dangles

@@ -3,14 +3,14 @@ use native.Mathlib.Omega.{arith}
 use Rattle.passes.proofs.ConditionalEnd.{can-fold, can-dangle, ends-idle, ends-folded, ends-dangling}
 use Rattle.passes.proofs.conditional.finish.Goals as goal
 
-pub dangling-left-requires : goal.dangling-left-requires
-dangling-left-requires c =
+pub dangling-requires : goal.dangling-requires
+dangling-requires c =
     can-dangle (can-fold c.requires)
     c.fold_conditionals-from.ensures
 
-pub returns-then-left-ne0 : goal.returns-then-left-ne0
-returns-then-left-ne0 c =
-    ends-dangling c.fold_conditionals-from.ensures c.dangling-left.ensures c.if-left-ne0.true
+pub returns-in-Some : goal.returns-in-Some
+returns-in-Some c =
+    ends-dangling c.fold_conditionals-from.ensures (rw c.in-Some.is at c.dangling.ensures)
 
 pub overflow_add-result : goal.overflow_add-result
 overflow_add-result c =
@@ -29,7 +29,7 @@ overflow_sub-result c =
 
 pub returns : goal.returns
 returns c =
-    ends-folded c.fold_conditionals-from.ensures c.dangling-left.ensures c.if-left-ne0.false
+    ends-folded c.fold_conditionals-from.ensures (rw c.in_default.is at c.dangling.ensures)
 
 pub returns-then-tokens-eq0 : goal.returns-then-tokens-eq0
 returns-then-tokens-eq0 c =

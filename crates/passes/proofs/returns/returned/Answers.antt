@@ -1,5 +1,4 @@
 -- `returned`: at the end of the list, and with a tree after it (ReturnLaws).
-use native.Mathlib.Omega.{arith}
 use mathlib.Core.Path.{refl}
 use Rattle.passes.proofs.{GatherLaws.{token-room, next-room}, ReturnLaws.{returned-end, returned-turn}}
 use Rattle.passes.proofs.returns.returned.Goals as goal
@@ -7,10 +6,6 @@ use Rattle.passes.proofs.returns.returned.Goals as goal
 pub attach-requires : goal.attach-requires
 attach-requires c =
     ((token-room c.requires).0, (next-room c.requires c.if-list.false).1)
-
-pub keep-requires : goal.keep-requires
-keep-requires c =
-    rw c.past-after.ensures (omega (arith, token-room c.requires, c.attach.ensures.long))
 
 pub returns : goal.returns
 returns c =

@@ -4,12 +4,6 @@ use native.Mathlib.Omega.{arith}
 use Rattle.passes.specs.Statements.{complete, closing}
 use Rattle.passes.proofs.statements.end_open.Goals as goal
 
-pub end_statement-requires : goal.end_statement-requires
-end_statement-requires c =
-    let unended : c.args.done < c.args.list.write =
-    omega (arith, c.requires.from, c.if-list-done.false) in
-    (rw c.spare.ensures (c.requires.give unended), omega arith)
-
 pub returns : goal.returns
 returns c =
     let unended : c.args.done < c.args.list.write =

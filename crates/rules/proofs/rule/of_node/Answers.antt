@@ -1,9 +1,9 @@
 -- `rules::rule::of_node` meets its contract: a leaf, or a node with children, whose rule the table has. Assumes nothing.
 use mathlib.Core.{Path.{◌≡◌, sym, ap, ◌∙◌}, Bool.{false}}
-use lib.{Dec.{eqb}, ListN.{get_or}}
-use borrow.Author.{Rules.{rules}, Tests.{eq-eqb, ne_eqb}}
+use lib.{Dec.{eqb}, ListN.{get_or, get_or-map}}
+use borrow.Author.{Tests.{eq-eqb, ne_eqb}}
 use Rattle.molang.specs.{Words.{low_of}, OperatorRules.{operator_rule}}
-use Rattle.rules.specs.Nodes.{node_rule}
+use Rattle.rules.specs.{Nodes.{node_rule}, RuleNumbers.{rule_number}, declared.rule.Rule.TheVariants.{Leaf}}
 use Rattle.rules.proofs.{NodeLaws.{rule-in}}
 use Rattle.rules.proofs.rule.of_node.Goals as goal
 
@@ -21,5 +21,6 @@ returns c first h =
     ne_eqb (low_of a.count) 0 (λ e. c.if-low-eq0.false (c.low.ensures ∙ e))
     in
     rw (node_rule, parent)
-    ((λ i. get_or (h i) (c.index_of.ensures i) 0)
+    (sym (get_or-map rule_number a.table.now c.index_of.result Leaf)
+    ∙ (λ i. get_or (h i) (c.index_of.ensures i) 0)
     ∙ (rule-in first _ ∙ ap (operator_rule first) c.operator.ensures))

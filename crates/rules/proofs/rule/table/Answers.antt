@@ -1,5 +1,4 @@
 -- `rules::rule::table` meets its contract: antt computes the rule of each of the 112 numbers and finds the table's entry. Assumes nothing.
-use borrow.Author.Rules.{rules}
 use Rattle.molang.specs.{Operator.{between, is_math_call}, Rules.{number_beside}, OperatorRules.{operator_rule}}
 use Rattle.ops.specs.Classes.{up_to}
 use Rattle.rules.proofs.rule.table.Goals as goal

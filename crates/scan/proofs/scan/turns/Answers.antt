@@ -1,41 +1,38 @@
--- `scan::scan::turns` meets its contract. The loop's invariant: the walk came here, in as many words. The measure is the place. Assumes
--- nothing.
-use mathlib.Core.Path.{refl, ◌∙◌}
-use native.Mathlib.Omega.{arith}
-use Rattle.scan.specs.{Scanning.{reached, stopped}}
-use Rattle.scan.proofs.{WalkingLaws.{wanted, ended}}
+-- `scan::scan::turns` meets its contract. Assumes nothing.
+use mathlib.Core.Path.{refl}
+use Rattle.scan.proofs.WalkingLaws.{to-want, ended, wants-at, has-at, stopped-there, want-next, have-next}
 use Rattle.scan.proofs.scan.turns.Goals as goal
 
-pub loop-t-init : goal.loop-t-init
-loop-t-init c = record { goes = c.requires; left = omega arith; long = refl }
+pub loop-turn-init : goal.loop-turn-init
+loop-turn-init c = record { came = to-want c.requires; long = refl }
 
-pub loop-t-smaller : goal.loop-t-smaller
-loop-t-smaller c =
-    let w = c.both-turn.ensures in
-    (wanted w.came c.in-Want.is).1
+pub want-requires : goal.want-requires
+want-requires c = let g = wants-at c.loop-turn.invariant c.in-Want.is in g.can
 
-pub loop-t-preserved : goal.loop-t-preserved
-loop-t-preserved c =
-    let w = c.both-turn.ensures in
-    let n = wanted w.came c.in-Want.is in
-    let l = c.loop-t.invariant.left in
-    record { goes = n.0; left = omega (arith, n.1, l); long = w.long ∙ c.loop-t.invariant.long }
+pub have-requires : goal.have-requires
+have-requires c =
+    let g = has-at c.loop-turn.invariant c.in-Have.is in g.can
 
-pub shape_of-work-in-Done : goal.shape_of-work-in-Done
-shape_of-work-in-Done c = c.both-turn.ensures.long ∙ c.loop-t.invariant.long
+pub returns-in_err-turn-in-Want : goal.returns-in_err-turn-in-Want
+returns-in_err-turn-in-Want c = rw c.from_residual.ensures (stopped-there c.loop-turn.invariant c.want.ensures)
+
+pub returns-in_err-turn-in-Have : goal.returns-in_err-turn-in-Have
+returns-in_err-turn-in-Have c =
+    rw c.from_residual-in_err-turn-in-Have.ensures (stopped-there c.loop-turn.invariant c.have.ensures)
 
 pub returns-in-Done : goal.returns-in-Done
-returns-in-Done c =
-    let w = c.both-turn.ensures in
-    record { answers = reached (ended w.came c.in-Done.is); long = w.long ∙ c.loop-t.invariant.long }
+returns-in-Done c = ended c.loop-turn.invariant c.in-Done.is
 
-pub shape_of-work-in_default : goal.shape_of-work-in_default
-shape_of-work-in_default c = c.both-turn.ensures.long ∙ c.loop-t.invariant.long
+pub loop-turn-smaller-in_ok-turn-in-Want : goal.loop-turn-smaller-in_ok-turn-in-Want
+loop-turn-smaller-in_ok-turn-in-Want c =
+    (want-next c.loop-turn.invariant c.in_ok-turn-in-Want.was c.in-Want.is c.want.ensures).1
 
-pub returns-in_default : goal.returns-in_default
-returns-in_default c =
-    record { answers = stopped; long = c.both-turn.ensures.long ∙ c.loop-t.invariant.long }
+pub loop-turn-preserved-in_ok-turn-in-Want : goal.loop-turn-preserved-in_ok-turn-in-Want
+loop-turn-preserved-in_ok-turn-in-Want c =
+    (want-next c.loop-turn.invariant c.in_ok-turn-in-Want.was c.in-Want.is c.want.ensures).0
 
-pub both-turn-requires : goal.both-turn-requires
-both-turn-requires c =
-    c.loop-t.invariant.goes
+pub loop-turn-smaller : goal.loop-turn-smaller
+loop-turn-smaller c = (have-next c.loop-turn.invariant c.in_ok-turn-in-Have.was c.args.given.openers c.in-Have.is c.have.ensures).1
+
+pub loop-turn-preserved : goal.loop-turn-preserved
+loop-turn-preserved c = (have-next c.loop-turn.invariant c.in_ok-turn-in-Have.was c.args.given.openers c.in-Have.is c.have.ensures).0

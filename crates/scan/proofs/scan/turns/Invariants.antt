@@ -1,12 +1,11 @@
--- `scan::scan::turns` meets its contract. The loop's invariant: the walk came here, in as many words. The measure is the place. Assumes
-use Rattle.scan.specs.{Turns.{want}}
-use Rattle.scan.proofs.{WalkingLaws.{Walking}}
+-- `scan::scan::turns`: the walk came to the turn, in as many words. The measure is what is left.
+use Rattle.scan.proofs.WalkingLaws.{Walking, left_of}
 use Rattle.scan.proofs.scan.turns.Given as goal
 
-abbrev pub invariant-loop-t : goal.invariant-loop-t
-invariant-loop-t l =
-    Walking l.list l.table l.used want l.initial.s.left l.initial.work l.work l.s
+abbrev pub invariant-loop-turn : goal.invariant-loop-turn
+invariant-loop-turn l =
+    Walking l.given.list.now l.given.table.now l.given.used l.initial.work l.work l.turn
 
-abbrev pub decreases-loop-t : goal.decreases-loop-t
-decreases-loop-t l =
-    l.s.left
+abbrev pub decreases-loop-turn : goal.decreases-loop-turn
+decreases-loop-turn l =
+    left_of l.turn

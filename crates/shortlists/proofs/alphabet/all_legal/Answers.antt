@@ -1,25 +1,14 @@
--- `shortlists::alphabet::all_legal` meets its contract. The loop's invariant: the letters that are left are legal exactly if all are. The
--- measure is what is left of them. Assumes nothing.
-use mathlib.Core.Path.{refl, sym, ◌∙◌}
-use Rattle.shortlists.proofs.{AlphabetLaws.{legal-here, legal-later, legal-none}}
+-- `shortlists::alphabet::all_legal` meets its contract: the test of each letter.
+use Rattle.std.proofs.Common.{rules, ◌∙◌}
+use Rattle.std.proofs.lemmas.Iterator.{YieldsList-from_slice}
+use Rattle.std.proofs.lemmas.Iterator.Search.{all_from_yields_List}
+use Rattle.molang.specs.Operator.{is_operator}
+use Rattle.shortlists.proofs.AlphabetLaws.{legal-all}
 use Rattle.shortlists.proofs.alphabet.all_legal.Goals as goal
-
-pub returns-then-not-is_operator : goal.returns-then-not-is_operator
-returns-then-not-is_operator c =
-    let list = c.args.alphabet.now in
-    let illegal = sym c.is_operator.ensures ∙ c.if-not-is_operator.true in
-    sym (sym c.loop-i.invariant ∙ legal-here list c.loop-i.i c.loop-i-test.true illegal)
-
-pub loop-i-preserved : goal.loop-i-preserved
-loop-i-preserved c =
-    let list = c.args.alphabet.now in
-    let legal = sym c.is_operator.ensures ∙ c.if-not-is_operator.false in
-    sym (legal-later list c.loop-i.i c.loop-i-test.true legal) ∙ c.loop-i.invariant
+use borrow.Author.Tests.{tests}
 
 pub returns : goal.returns
 returns c =
-    sym (sym c.loop-i.invariant ∙ legal-none c.args.alphabet.now c.loop-i.i c.loop-i-test.false)
-
-pub loop-i-init : goal.loop-i-init
-loop-i-init c =
-    refl
+    all_from_yields_List is_operator _ _ c.all.result c.all.ensures.ran (YieldsList-from_slice c.args.alphabet.now cc)
+    (λ x b q k. search (rules, tests))
+    ∙ legal-all c.args.alphabet.now

@@ -1,6 +1,6 @@
 -- `words::checks::low_bits` meets its contract: operator, payload variant, other bits, in this order. Assumes nothing.
 use mathlib.Core.Path.{sym, ◌∙◌}
-use borrow.Author.{Tests.{le-leb, lt-leb, not-true, not-false}}
+use borrow.Author.{Tests.{le-leb, lt-leb}}
 use Rattle.molang.{specs.FirstFailure.{must, first_of}, proofs.FirstFailure.{last_one}}
 use Rattle.words.proofs.{CheckLaws.{operator-tests}}
 use Rattle.words.proofs.checks.low_bits.Goals as goal
@@ -12,7 +12,7 @@ returns-then-not-is_operator c =
     rw (
       operator-tests numbered.args.w,
       ← numbered.operator.ensures,
-      sym c.is_operator.ensures ∙ not-true _ c.if-not-is_operator.true-raw,
+      sym c.is_operator.ensures ∙ c.if-not-is_operator.true,
     )
 
 pub returns-then-variant-gt-LAST_VARIANT : goal.returns-then-variant-gt-LAST_VARIANT
@@ -22,7 +22,7 @@ returns-then-variant-gt-LAST_VARIANT c =
     rw (
       operator-tests numbered.args.w,
       ← numbered.operator.ensures,
-      sym c.is_operator.ensures ∙ not-false _ c.if-not-is_operator.false-raw,
+      sym c.is_operator.ensures ∙ c.if-not-is_operator.false,
       ← c.variant.ensures,
       lt-leb c.variant.result 12 c.if-variant-gt-LAST_VARIANT.true,
     )
@@ -36,7 +36,7 @@ returns c =
     ∙ rw (
       operator-tests numbered.args.w,
       ← numbered.operator.ensures,
-      sym judged.is_operator.ensures ∙ not-false _ judged.if-not-is_operator.false-raw,
+      sym judged.is_operator.ensures ∙ judged.if-not-is_operator.false,
       ← c.variant.ensures,
       le-leb c.variant.result 12 c.if-variant-gt-LAST_VARIANT.false,
       ← c.low-low.ensures,

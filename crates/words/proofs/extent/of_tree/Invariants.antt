@@ -1,16 +1,13 @@
 -- `words::extent::of_tree` meets its contract: what was seen, with the trees that are still called for, has the first tree's extent.
-use Prim.Native.Nat.{◌+◌, ◌*◌, ◌-◌, ◌^◌, ◌≤◌, ◌<◌}
+use Prim.Native.Nat.{◌+◌, ◌*◌, ◌^◌, ◌<◌}
 use mathlib.Core.{Path.{◌≡◌}}
-use lib.{ListN.{length, drop}}
+use lib.{ListN.{length}}
 use Rattle.molang.specs.{WriteEntry.{first_trees, trees_of}}
 use Rattle.words.specs.{Extents.{extent_with, first_extent}}
 use Rattle.words.proofs.extent.of_tree.Given as goal
 
-abbrev pub invariant-loop-trees : goal.invariant-loop-trees
-invariant-loop-trees l =
-    (extent_with l.seen (first_trees l.trees (trees_of (drop l.at l.words))) ≡ first_extent (trees_of l.words)) × (l.at ≤ length l.words)
-    × (l.trees + 2 ^ 29 * (length l.words - l.at) < 2 ^ 64)
-
-abbrev pub decreases-loop-trees : goal.decreases-loop-trees
-decreases-loop-trees l =
-    length l.words - l.at
+abbrev pub invariant-loop-node : goal.invariant-loop-node
+invariant-loop-node l =
+    (extent_with l.seen (first_trees l.trees (trees_of l.node-iterator.rest.now)) ≡ first_extent (trees_of l.words))
+    × (l.node-iterator.size ≡ 7)
+    × (l.trees + 2 ^ 29 * length l.node-iterator.rest.now < 2 ^ 64)

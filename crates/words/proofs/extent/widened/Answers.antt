@@ -10,5 +10,5 @@ returns c =
     let seen = c.args.seen in
     let extent : ℕ → ℕ → Extent = λ s e. record { start = s; end = e } in
     ap₂ extent
-    (c.lesser.ensures ∙ ap (min seen.start) c.low.ensures)
-    (c.greater.ensures ∙ ap (max seen.end) c.low-2.ensures)
+    (c.min.ensures ∙ ap (min seen.start) c.low.ensures)
+    (c.max.ensures ∙ ap (max seen.end) c.low-2.ensures)

@@ -1,8 +1,7 @@
--- `words::fields::start_word` meets its contract: by computation. Assumes nothing.
-use mathlib.Core.Path.{refl}
-use Rattle.molang.specs.Words.{word, low_of}
+-- `words::fields::start_word` meets its contract: the word of its kind. Assumes nothing.
+use Rattle.molang.specs.Words.{low_of}
 use Rattle.words.proofs.fields.start_word.Goals as goal
 
 pub returns : goal.returns
-returns c =
-    unfold word low_of in refl
+unfolding low_of
+returns c = c.word.ensures

@@ -1,47 +1,37 @@
--- `write::plain::holds_statements` meets its contract. The loop's invariant is `Holding`; the measure is the words that are left. Assumes
--- nothing.
-use native.Mathlib.Omega.{arith}
-use Rattle.write.proofs.RootLaws.{holding-begins, holding-room, holding-few, holding-falls, holding-refused, holding-child}
-use Rattle.write.proofs.{RootLaws.{holding-below, holding-ends}}
+-- `write::plain::holds_statements` meets its contract: each node that is passed keeps `Holding`. Assumes nothing.
+use Rattle.std.proofs.Common.{refl, arith, ◌∙◌}
+use Rattle.write.proofs.ReaderLaws.{Passes, passes, passes-none}
+use Rattle.write.proofs.RootLaws.{holding-begins, holding-few, holding-refused, holding-on, holding-ends}
 use Rattle.write.proofs.plain.holds_statements.Goals as goal
+use Rattle.write.proofs.plain.holds_statements.Goals.{In-Some, else-due-eq0-via-then-due-eq0+else-seen-ne-SEMICOLON, else-due-eq0-via-else-due-eq0}
+
+passed : (c : In-Some) → Passes c.args.tree.now c.loop-seen.seen-iterator.at c.in-Some.seen c.next.new.self
+passed c = passes c.loop-seen.invariant.2 c.in-Some.ensures.steps
+
+pub loop-seen-init : goal.loop-seen-init
+loop-seen-init c =
+    rw (c.into_iter-seen-iterator.ensures.into_iter_gives ∙ c.new-seen-items.ensures) (tt, tt, refl, holding-begins c.requires)
 
 pub returns-then-seen-ne-SEMICOLON : goal.returns-then-seen-ne-SEMICOLON
 returns-then-seen-ne-SEMICOLON c =
-    holding-refused c.requires c.loop-at.invariant c.loop-at-test.true c.view_node-seen.ensures
-    c.if-due-eq0.true c.if-seen-ne-SEMICOLON.true
-
-pub loop-at-smaller-then-due-eq0 : goal.loop-at-smaller-then-due-eq0
-loop-at-smaller-then-due-eq0 c =
-    holding-falls c.requires c.loop-at.invariant c.loop-at-test.true c.view_node-seen.ensures
-
-pub loop-at-preserved-then-due-eq0 : goal.loop-at-preserved-then-due-eq0
-loop-at-preserved-then-due-eq0 c =
-    holding-child c.requires c.loop-at.invariant c.loop-at-test.true c.view_node-seen.ensures
-    c.if-due-eq0.true c.if-seen-ne-SEMICOLON.false
+    let p = passed (goal.at.returns-then-seen-ne-SEMICOLON c).In-Some in
+    holding-refused c.requires c.loop-seen.invariant.3 p.whole p.is_seen c.if-due-eq0.true c.if-seen-ne-SEMICOLON.true
 
 pub overflow_add-due : goal.overflow_add-due
 overflow_add-due c =
-    let few =
-    holding-few c.requires c.loop-at.invariant c.loop-at-test.true c.view_node-seen.ensures c.if-due-eq0.false
+    let p = passed (goal.at.overflow_add-due c).In-Some in
+    omega (arith, c.saturating_sub.ensures, holding-few c.requires c.loop-seen.invariant.3 p.whole p.is_seen, c.requires.small)
+
+pub loop-seen-preserved : goal.loop-seen-preserved
+loop-seen-preserved c =
+    let p = passed (goal.at.loop-seen-preserved c).In-Some in
+    let on = holding-on c.requires c.loop-seen.invariant.3 p.whole p.is_seen
+    (elim c.else-due-eq0.branch [
+      | else-due-eq0-via-then-due-eq0+else-seen-ne-SEMICOLON w ↦ λ _. w.if-seen-ne-SEMICOLON.false
+      | else-due-eq0-via-else-due-eq0 w ↦ λ e. absurd (w.if-due-eq0.false e)
+    ])
     in
-    omega (arith, few)
-
-pub loop-at-smaller : goal.loop-at-smaller
-loop-at-smaller c =
-    holding-falls c.requires c.loop-at.invariant c.loop-at-test.true c.view_node-seen.ensures
-
-pub loop-at-preserved : goal.loop-at-preserved
-loop-at-preserved c =
-    holding-below c.requires c.loop-at.invariant c.loop-at-test.true c.view_node-seen.ensures c.if-due-eq0.false
-
-pub loop-at-init : goal.loop-at-init
-loop-at-init c =
-    holding-begins c.requires
-
-pub view_node-seen-requires : goal.view_node-seen-requires
-view_node-seen-requires c =
-    holding-room c.requires c.loop-at.invariant c.loop-at-test.true
+    (tt, tt, p.words, rw (p.behind, c.saturating_sub.ensures) on)
 
 pub returns : goal.returns
-returns c =
-    holding-ends c.requires c.loop-at.invariant c.loop-at-test.false
+returns c = holding-ends c.requires c.loop-seen.invariant.3 (passes-none c.loop-seen.invariant.2 c.in-None.ensures.steps)

@@ -1,7 +1,6 @@
 -- Writing a node and writing an operand both fall by the remaining node count: a node's operand has a node less, and an operand's node
--- as many. The loop's invariant is that what held of any list when the climb began holds of it now, further up.
-use Rattle.std.proofs.Common.{ℕ, ◌+◌, ◌*◌, ◌≤◌, List, length}
-use Rattle.write.specs.Spelling.{node_written}
+-- as many. The loop's invariant is how far up the row is written.
+use Rattle.std.proofs.Common.{◌+◌, ◌*◌}
 use Rattle.write.proofs.{StepLaws.{nodes_left}, SpineLaws.{Climbing}}
 use Rattle.write.proofs.spell.+write_node_write_operand.Given as goal
 
@@ -12,10 +11,7 @@ abbrev pub decreases-write_operand : goal.decreases-write_operand
 decreases-write_operand l = 2 * nodes_left l.words.now + 1
 
 abbrev pub invariant-write_node-loop-node : goal.invariant-write_node-loop-node
-invariant-write_node-loop-node l =
-    (L : List ℕ) → l.initial.to + length (node_written l.words) ≤ length L
-    → Climbing l.words L l.initial.to l.initial.node l.initial.place l.initial.next l.initial.list l.initial.after l.initial.start l.initial.stop
-    → Climbing l.words L l.initial.to l.node l.place l.next l.list l.after l.start l.stop
+invariant-write_node-loop-node l = Climbing l.words l.fn.list l.fn.pen.to l.node l.place l.next l.list l.row.to l.row.seen
 
 abbrev pub decreases-write_node-loop-node : goal.decreases-write_node-loop-node
 decreases-write_node-loop-node l = l.node

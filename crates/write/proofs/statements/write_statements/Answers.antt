@@ -1,9 +1,11 @@
 -- `write::statements::write_statements` meets its contract. The loop's invariant is `Stating`; the measure is the words that are left.
 -- Assumes nothing.
-use native.Mathlib.Omega.{arith}
-use Rattle.write.proofs.StatementLaws.{stating-begins, stating-ends, stating-room, stating-within, stating-falls}
-use Rattle.write.proofs.{StatementLaws.{stating-on}}
+use Rattle.std.proofs.Common.{arith}
+use Rattle.write.proofs.StatementLaws.{stating-begins, stating-ends, stating-room, stating-within, stating-falls, stating-on}
 use Rattle.write.proofs.statements.write_statements.Goals as goal
+
+pub loop-at-init : goal.loop-at-init
+loop-at-init c = rw c.new-pen.ensures.to (stating-begins c.requires)
 
 pub write_statement-at-requires : goal.write_statement-at-requires
 write_statement-at-requires c =
@@ -23,14 +25,6 @@ pub loop-at-preserved : goal.loop-at-preserved
 loop-at-preserved c =
     let e = c.write_statement-at.ensures in
     stating-on c.loop-at.invariant c.loop-at-test.true e.value (e.list_after, e.to_after)
-
-pub loop-at-init : goal.loop-at-init
-loop-at-init c =
-    stating-begins c.requires
-
-pub shape_of-list : goal.shape_of-list
-shape_of-list c =
-    c.loop-at.invariant.kept
 
 pub returns : goal.returns
 returns c =

@@ -6,7 +6,7 @@ use Rattle.write.proofs.statements.write_statements.Given as goal
 
 abbrev pub invariant-loop-at : goal.invariant-loop-at
 invariant-loop-at l =
-    Stating l.tree l.initial.list l.list l.to l.at
+    Stating l.tree l.fn.list l.list l.pen.to l.at
 
 abbrev pub decreases-loop-at : goal.decreases-loop-at
 decreases-loop-at l =

@@ -1,7 +1,0 @@
--- `scan::stack::push` meets its contract. Assumes nothing.
-use Rattle.scan.proofs.{ViewLaws.{at_push}}
-use Rattle.scan.proofs.stack.push.Goals as goal
-
-pub returns : goal.returns
-returns c =
-    at_push _ _ _ c.requires.0 c.requires.1
