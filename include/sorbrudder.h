@@ -41,6 +41,8 @@
  * open list opening takes at most 2 KiB, asking and committing at most 84 KiB, since they put the new list together there, and a version
  * change nothing worth naming (docs/notes/host.md).
  *
+ * Linking. From outside the library needs memcpy and memset, and no other name.
+ *
  * An answer is one number. Bits 0-31: the count of nodes, tokens or messages, or a refusal's place. Bits 32-39: a refusal's number, else 0.
  * Bits 40-47: 0 for a tree, in either order, a written list, a list that stays as it is or a changed version, 1 for messages, 2 for a
  * refusal; 3, 4 and 5 are the lift's alone. The functions below take it apart.

@@ -106,6 +106,7 @@ prove
 # The library that the Rust crates link, and the programs that they run. Where it is not built, the host crate does not build either, and
 # its tests count as failed.
 step "the static library" tools/library.sh $after
+step "the static library needs no other names from outside than it says" tools/outside_names.sh
 step "the programs" tools/programs.sh --after-ci
 step "the prebuilt library and programs are those that are proved here" tools/prebuilt.sh --check
 for crate in oracle compare host; do

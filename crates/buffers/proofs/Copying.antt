@@ -1,17 +1,18 @@
--- Copying a run of words to the front of a buffer; and laying a tree out: the words that emission leaves, copied.
-use Prim.Native.Nat.{ℕ, ◌+◌, ◌*◌, ◌≤◌}
-use mathlib.Core.{Path.{◌≡◌, ap, ◌∙◌}, List.{List, ◌++◌}}
+-- Copying a run of words to the front of a buffer, a word a turn; and laying a tree out: the words that emission leaves, copied.
+use Prim.Native.Nat.{ℕ, ◌+◌, ◌*◌, ◌≤◌, ◌<◌}
+use mathlib.Core.{Path.{◌≡◌, ap, ◌∙◌}, List.{List}}
 use native.Mathlib.{Omega.{arith}}
-use lib.{ListN.{length, take, drop}}
+use lib.{ListN.{length, get_or, take, drop, set}}
 use Rattle.molang.{specs.Forest.{Forest}, specs.Words.{tree_words}, specs.Parse.{in_front}, proofs.Bounds.{tree_words-length}}
-use Rattle.words.specs.Tokens.{node_length}
+use Rattle.words.{specs.{Tokens.{node_length}, Records.{laid_at}}, proofs.LaidLaws.{laid_next}}
 use Rattle.buffers.specs.Emit.{Linked, CanEmit, Emitted, CanLayOut, LaidOut}
 use Rattle.buffers.proofs.Runs.{seg-part}
 
--- Words put over the first of d.
-pub copied : (ws d : List ℕ) {part : List ℕ} → part ≡ ws → part ++ drop (length ws) d ≡ in_front ws d
-unfolding in_front
-copied ws d e = rw e
+-- One word more of ws in front of d.
+pub copy_step : (ws d l : List ℕ) (i : ℕ) → length ws ≤ length d → i < length ws → l ≡ in_front (take i ws) d
+    → set l i (get_or ws i 0) ≡ in_front (take (i + 1) ws) d
+unfolding laid_at
+copy_step ws d l i room h e = let z : 0 + i ≡ i = omega arith in rw z at (laid_next d l 0 ws i (omega arith) h e)
 
 -- ---- `lay_out`
 

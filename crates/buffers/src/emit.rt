@@ -82,7 +82,10 @@ pub fn copy_tree(words: &[u32], tree: &mut [u32])
     requires { length words.now ≤ length tree.old }
     ensures { tree.new ≡ in_front words.now tree.old }
 {
-    tree[..words.len()].copy_from_slice(words);
+    // Not by `copy_from_slice`, with which the archive for C needs `memmove` from outside.
+    for i in 0..words.len() {
+        tree[i] = words[i];
+    }
 }
 
 // Where the tree words of n tokens are laid out in the work buffer: above the siblings that wait during their emission. The callers have

@@ -11,6 +11,7 @@ ghost use Rattle.std.specs.Prelude.{◌≡◌, IfErr};
 ghost use Rattle.held.specs.Held.{count_row, with_version};
 ghost use Rattle.held.specs.Answers.{adopt_of, adopt_outcome, lent, edit, state, HasOpened, HasAsked, HasCommitted};
 
+use crate::copying::copy_words;
 use crate::edits::{read_edited, with_edit};
 use crate::faults::{ask_fault, commit_fault, count_fault};
 use own::read_own;
@@ -58,7 +59,7 @@ pub fn open_list(
         return Err(Reason::ShortList.at(0));
     }
     let answer = read_own(list, tree, messages, work, version, limit)?;
-    words[..list.len()].copy_from_slice(list);
+    copy_words(list, words, 0);
     let held = Held {
         tokens: list.len() / fields::TOKEN_WORDS,
         version,
@@ -135,7 +136,7 @@ pub fn commit_edit(
     )?;
     let next = with_edit(held, removed, put);
     let kept = fields::TOKEN_WORDS * next.tokens;
-    words[..kept].copy_from_slice(&new[..kept]);
+    copy_words(&new[..kept], words, 0);
     Ok(Change { answer, held: next })
 }
 

@@ -1,11 +1,12 @@
 -- `held::commit_edit` meets its contract: a refusal of its own rows, or the new list, kept if the entry accepts it. Assumes nothing.
 use Prim.Native.Nat.{ℕ, ◌*◌, ◌≤◌}
-use mathlib.Core.{Path.{◌≡◌, sym, ap, ◌∙◌}, List.{List, ◌++◌}}
+use mathlib.Core.Path.{◌≡◌, sym, ◌∙◌}
 use native.Mathlib.Omega.{arith}
 use mir.{Syntax.{w16}, Val.{of_z, to_z}}
-use lib.{ListN.{length, drop, length-replicate}, Seq.{length-take-le}}
+use lib.{ListN.{length, length-replicate}, Seq.{length-take-le}}
 use borrow.Author.Rules.{rules}
 use Rattle.std.proofs.lemmas.Result.{err_from_is_err_and}
+use Rattle.words.proofs.RecordLaws.{laid-front}
 use Rattle.held.specs.{Held.{held_list, edited, lent_call, edit_call}, Answers.{state, edit, lent}}
 use Rattle.held.proofs.{FaultLaws.{commit-within}, KeepLaws.{kept-front}}
 use Rattle.held.proofs.CallLaws.{can-edit, next-held, commit-turned, commit-back, commit-words, has-committed}
@@ -101,26 +102,18 @@ pub overflow_mul-kept : goal.overflow_mul-kept
 overflow_mul-kept c =
     let k = kept-words (goal.at.overflow_mul-kept c).After-with_edit-next in omega (arith, k.1, k.2, k.3)
 
-pub slice_bounds-copy_from_slice-end : goal.slice_bounds-copy_from_slice-end
-slice_bounds-copy_from_slice-end c =
-    let k = kept-words (goal.at.slice_bounds-copy_from_slice-end c).After-with_edit-next in omega (arith, k.1, k.2, k.3)
-
 pub slice_bounds-new-end : goal.slice_bounds-new-end
 slice_bounds-new-end c =
     let k = kept-words (goal.at.slice_bounds-new-end c).After-with_edit-next in omega (arith, k.1, k.2, k.3)
 
-pub slice_bounds-copy_from_slice-end-2 : goal.slice_bounds-copy_from_slice-end-2
-slice_bounds-copy_from_slice-end-2 c =
-    let k = kept-words (goal.at.slice_bounds-copy_from_slice-end-2 c).After-with_edit-next in sym (length-take-le _ _ (omega (arith, k.1, k.2, k.3)))
+pub slice_bounds-copy_words-end : goal.slice_bounds-copy_words-end
+slice_bounds-copy_words-end c =
+    let k = kept-words (goal.at.slice_bounds-copy_words-end c).After-with_edit-next in sym (length-take-le _ _ (omega (arith, k.1, k.2, k.3)))
 
-pub slice_bounds-copy_from_slice-end-3 : goal.slice_bounds-copy_from_slice-end-3
-slice_bounds-copy_from_slice-end-3 c =
-    let k = kept-words (goal.at.slice_bounds-copy_from_slice-end-3 c).After-with_edit-next in sym (length-take-le _ _ (omega (arith, k.1, k.2, k.3)))
-
-pub copy_from_slice-requires : goal.copy_from_slice-requires
-copy_from_slice-requires c =
-    let k = kept-words (goal.at.copy_from_slice-requires c).After-with_edit-next in
-    length-take-le _ _ (omega (arith, k.1, k.2, k.3)) ∙ sym (length-take-le _ _ (omega (arith, k.1, k.2, k.3)))
+pub copy_words-requires : goal.copy_words-requires
+copy_words-requires c =
+    let k = kept-words (goal.at.copy_words-requires c).After-with_edit-next in
+    omega (arith, length-take-le (5 * c.with_edit-next.result.tokens) c.read_edited.new.new (omega (arith, k.1, k.3)), k.1, k.2)
 
 pub returns : goal.returns
 unfolding edit_call lent_call held_list
@@ -134,5 +127,4 @@ returns c =
     let k = commit-words s a.seen e l (rw same at c.in_ok-answer.ensures.has_parsed) (c.with_edit-next.ensures ∙ next-held s e w.0) in
     has-committed s a.seen e l (rw same at c.in_ok-answer.ensures.has_parsed) (c.with_edit-next.ensures ∙ next-held s e w.0)
     c.in_ok-commit_fault.ensures
-    (ap (λ (l : List ℕ). l ++ drop (5 * c.with_edit-next.result.tokens) a.words.now) c.copy_from_slice.ensures.after
-    ∙ kept-front _ _ a.words.now k.0 c.in_ok-answer.ensures.after)
+    (c.copy_words.ensures ∙ laid-front _ _ ∙ kept-front _ _ a.words.now k.0 c.in_ok-answer.ensures.after)

@@ -1,10 +1,11 @@
 -- `held::open_list` meets its contract: a slice that is too short, or a list that is kept if the entry accepts it. Assumes nothing.
 use Prim.Native.Nat.{ℕ, ◌/◌}
-use mathlib.Core.{Path.{◌≡◌, ap, sym}, List.{List, ◌++◌}}
+use mathlib.Core.{Path.{◌≡◌, ap, ◌∙◌}, List.{List}}
+use native.Mathlib.Omega.{arith}
 use mir.{Syntax.{w16}, Facts.{to_z-of_z}}
-use lib.{IntN.{ℤ}, ListN.{length, drop}, Seq.{length-take-le}}
+use lib.{IntN.{ℤ}, ListN.{length}}
 use Rattle.std.proofs.lemmas.Result.{err_from_is_err_and}
-use Rattle.molang.specs.Parse.{in_front}
+use Rattle.words.proofs.RecordLaws.{laid-front}
 use Rattle.held.specs.{declared.Held.{Held}, Held.{lent_call, opened}, Answers.{lent}}
 use Rattle.held.proofs.CallLaws.{open-short, open-turned, open-room, has-opened}
 use Rattle.held.proofs.open_list.Goals as goal
@@ -31,34 +32,19 @@ unfolding opened
 held-is words list version same = ap (λ (v : ℤ). record { tokens = length list / 5; version = v; edits = 0 }) same
 
 pub returns : goal.returns
-unfolding lent_call in_front
+unfolding lent_call
 returns c =
     let a = c.args in
     let version = to_z-of_z {w = w16} c.ranges.version in
     has-opened a.words.now a.list.now (lent a.tree.now a.messages.now a.work.now a.limit) a.version c.if-words-lt-HELD_WORDS.false
     (rw version at c.in_ok-answer.ensures) (held-is a.words.now a.list.now a.version version)
-    (ap (λ (l : List ℕ). l ++ drop (length a.list.now) a.words.now) c.copy_from_slice.ensures.after)
+    (c.copy_words.ensures ∙ laid-front _ _)
 
-pub slice_bounds-copy_from_slice-end : goal.slice_bounds-copy_from_slice-end
+pub copy_words-requires : goal.copy_words-requires
 unfolding lent_call
-slice_bounds-copy_from_slice-end c =
+copy_words-requires c =
     let a = c.args in
-    open-room a.words.now a.list.now (lent a.tree.now a.messages.now a.work.now a.limit) a.version c.if-words-lt-HELD_WORDS.false
+    let room = open-room a.words.now a.list.now (lent a.tree.now a.messages.now a.work.now a.limit) a.version c.if-words-lt-HELD_WORDS.false
     (rw (to_z-of_z {w = w16} c.ranges.version) at c.in_ok-answer.ensures)
-
-pub slice_bounds-copy_from_slice-end-2 : goal.slice_bounds-copy_from_slice-end-2
-unfolding lent_call
-slice_bounds-copy_from_slice-end-2 c =
-    let a = c.args in
-    sym
-    (length-take-le _ _
-    (open-room a.words.now a.list.now (lent a.tree.now a.messages.now a.work.now a.limit) a.version c.if-words-lt-HELD_WORDS.false
-    (rw (to_z-of_z {w = w16} c.ranges.version) at c.in_ok-answer.ensures)))
-
-pub copy_from_slice-requires : goal.copy_from_slice-requires
-unfolding lent_call
-copy_from_slice-requires c =
-    let a = c.args in
-    length-take-le _ _
-    (open-room a.words.now a.list.now (lent a.tree.now a.messages.now a.work.now a.limit) a.version c.if-words-lt-HELD_WORDS.false
-    (rw (to_z-of_z {w = w16} c.ranges.version) at c.in_ok-answer.ensures))
+    in
+    omega (arith, room)
