@@ -6,10 +6,10 @@
 mod tree;
 pub mod walk;
 
-ghost use Rattle.std.specs.Prelude.{◌≡◌, true, ◌+◌, ◌≤◌, length};
+ghost use Rattle.std.specs.Prelude.{◌≡◌, true, ℕ, ◌+◌, ◌≤◌, length};
 ghost use Rattle.molang.specs.Words as words;
 ghost use Rattle.molang.specs.WriteEntry as entry;
-ghost use Rattle.shape.specs.Answers.{field_of, refusal_of, tree_refusal, is_legal};
+ghost use Rattle.shape.specs.Answers.{field_of, refusal_of, tree_refusal, is_legal, shape};
 ghost use Rattle.shape.specs.Seen.{LegalNode};
 ghost use Rattle.words.specs.Tokens.{node_length};
 
@@ -84,6 +84,17 @@ impl Field {
             Field::Lower => checks::half_word(w, WordKind::Lower, variant).is_ok(),
             Field::Count => is_count(w),
             Field::Close => checks::span_word(w, WordKind::Close).is_ok(),
+        }
+    }
+
+    // How many nodes have begun, after one of a node's words. The loops over words stop before more have begun than fit.
+    pub fn begun_after(self, begun: u32) -> u32
+        requires { begun ≤ entry.most_nodes }
+        ensures { (called w : ℕ) → result ≡ (entry.shape_after (field_of self) w (shape called begun)).begun }
+    {
+        match self {
+            Field::Operator => begun + 1,
+            _ => begun,
         }
     }
 

@@ -41,7 +41,7 @@ impl Walk for TreeOrder {
         match field {
             Field::Operator => Self {
                 called: self.called,
-                begun: self.begun + 1,
+                begun: field.begun_after(self.begun),
             },
             Field::Count => Self {
                 called: self.called + fields::low(w),

@@ -1,17 +1,17 @@
 -- `shape::tree::TreeOrder::after` meets its contract: case by case. Assumes nothing.
 use mathlib.Core.Path.{◌≡◌, refl}
-use native.Mathlib.{Numerals.{add-one}, Omega.{arith}}
+use native.Mathlib.{Omega.{arith}}
 use Rattle.molang.specs.{Words.{low_of}, WriteEntry.{shape_after}}
 use Rattle.shape.specs.{Answers.{field_of}, Trees.{tree_stepped}}
 use Rattle.shape.proofs.CaseLaws.{neither}
 use Rattle.shape.proofs.tree.TreeOrderWalk.after.Goals as goal
 
-pub overflow_add-result-in-Count : goal.overflow_add-result-in-Count
-overflow_add-result-in-Count c = unfold low_of in omega (arith, c.low.ensures, c.requires.holds.1)
+pub overflow_add-result : goal.overflow_add-result
+overflow_add-result c = unfold low_of in omega (arith, c.low.ensures, c.requires.holds.1)
 
 pub returns-in-Operator : goal.returns-in-Operator
 unfolding shape_after
-returns-in-Operator c = rw (c.in-Operator.is, add-one) refl
+returns-in-Operator c = rw (c.begun_after.ensures c.args.self.called c.args.w, c.in-Operator.is) refl
 
 pub returns-in-Count : goal.returns-in-Count
 unfolding shape_after
