@@ -6,7 +6,8 @@
 
 mod asked;
 
-ghost use Rattle.std.specs.Prelude.{◌≡◌, length, IfSome};
+ghost use Rattle.std.specs.Prelude.{◌≡◌, ◌+◌, ◌^◌, ◌≤◌, ◌<◌, length, take, IfSome};
+ghost use Rattle.std.specs.Io.KnownBytes.{Consumes};
 ghost use Rattle.io.specs.Counts.{IsPrefixLen};
 ghost use Rattle.text.specs.Text.{Wrote};
 ghost use Rattle.treelist.specs.Listing.{printed};
@@ -43,6 +44,21 @@ struct Rest {
     last: usize,
 }
 
+// One chunk more, which is taken from the input and lies in front of the space; nothing if a read fails. `count_rest` has room for its length.
+fn read_on<R: Read>(input: &mut R, rest: Rest, space: &mut [u8]) -> Option<Rest>
+    requires { (length space.old ≡ 65536) × (rest.bytes + 65536 < 2 ^ 64) }
+    ensures counted { IfSome result (λ next. (next.last ≤ length space.new) × (next.bytes ≡ rest.bytes + next.last)) }
+    ensures taken { IfSome result (λ next. Consumes (R.remaining input.old) (R.remaining input.new) (take next.last space.new)) }
+{
+    let Ok(last) = fill(input, space) else {
+        return None;
+    };
+    Some(Rest {
+        bytes: rest.bytes + last,
+        last,
+    })
+}
+
 // Reads on as long as chunks fill the space, which `go_on` lends; nothing if a read fails.
 fn count_rest<R: Read>(input: &mut R, space: &mut [u8]) -> Option<Rest>
     requires { length space.old ≡ 65536 }
@@ -50,16 +66,13 @@ fn count_rest<R: Read>(input: &mut R, space: &mut [u8]) -> Option<Rest>
 {
     let mut rest = Rest { bytes: 0, last: 0 };
     for _ in 0..TURNS {
-        let Ok(last) = fill(input, space) else {
+        let Some(next) = read_on(input, rest, space) else {
             return None;
         };
-        rest = Rest {
-            bytes: rest.bytes + last,
-            last,
-        };
-        if last < space.len() {
-            return Some(rest);
+        if next.last < space.len() {
+            return Some(next);
         }
+        rest = next;
     }
     None
 }

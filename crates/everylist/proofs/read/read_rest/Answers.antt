@@ -10,26 +10,20 @@ pub loop-init : goal.loop-init
 unfolding words_in all_numbers
 loop-init g c = (omega arith, refl, record { before = []; bytes = refl; fine = refl; room = omega arith })
 
-pub and-next-requires : goal.and-next-requires
-and-next-requires g c =
-    let few = c.in-Ok.ensures.prefix_len.0 in
-    omega (arith, few, length-take-le c.in-Ok.last c.fill.new.buffer few)
-
-pub returns-then-last-space : goal.returns-then-last-space
-returns-then-last-space g c =
-    rest-on c.loop.space _ c.loop.rest _ c.in-Ok.last c.loop.invariant.2 c.loop.invariant.1 c.in-Ok.ensures.prefix_len.0
-    (omega (arith, c.in-Ok.ensures.prefix_len.0))
-    c.and-next.ensures
+pub returns-then-next-space : goal.returns-then-next-space
+returns-then-next-space g c =
+    let on = c.in-Some.ensures.onward in
+    rest-on c.loop.space _ c.loop.rest _ c.in-Some.next.last c.loop.invariant.2 c.loop.invariant.1 on.0 (omega (arith, on.0)) on.1
 
 pub loop-preserved : goal.loop-preserved
 loop-preserved g c =
-    let few : c.in-Ok.last ≤ length c.fill.new.buffer = c.in-Ok.ensures.prefix_len.0 in
-    let came : length (take c.in-Ok.last c.fill.new.buffer) ≡ c.in-Ok.last = length-take-le c.in-Ok.last c.fill.new.buffer few in
-    let bytes : c.and-next.result.bytes ≡ c.loop.rest.bytes + length (take c.in-Ok.last c.fill.new.buffer) = c.and-next.ensures.bytes in
+    let on = c.in-Some.ensures.onward in
+    let space = c.read_on.new.space in
+    let came : length (take c.in-Some.next.last space) ≡ c.in-Some.next.last = length-take-le c.in-Some.next.last space on.0 in
+    let bytes : c.in-Some.next.bytes ≡ c.loop.rest.bytes + length (take c.in-Some.next.last space) = on.1.bytes in
+    let few : c.in-Some.next.last ≤ length space = on.0 in
     let whole : c.loop.rest.bytes % 4 ≡ 0 = c.loop.invariant.1 in (
       omega arith,
       omega arith,
-      rest-on c.loop.space _ c.loop.rest _ c.in-Ok.last c.loop.invariant.2 c.loop.invariant.1 c.in-Ok.ensures.prefix_len.0
-          (omega (arith, c.in-Ok.ensures.prefix_len.0))
-          c.and-next.ensures,
+      rest-on c.loop.space _ c.loop.rest _ c.in-Some.next.last c.loop.invariant.2 c.loop.invariant.1 on.0 (omega (arith, on.0)) on.1,
     )
