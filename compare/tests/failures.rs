@@ -60,13 +60,16 @@ fn a_failed_read_is_no_end(name: &str, line: &str, input: &[u8], cuts: &[usize])
 }
 
 /// A device on which every write fails.
+fn full() -> File {
+    let device = File::options().write(true).open("/dev/full");
+    device.expect("a device that is always full")
+}
+
 fn a_failed_write_is_told(name: &str, what: &str, input: &[u8]) {
     let _alone = alone();
-    let full = File::options().write(true).open("/dev/full");
-    let full = full.expect("a device that is always full");
     let (all, feed) = stream(input);
     drop(feed);
-    let found = Program::named(name).run_between(all, full);
+    let found = Program::named(name).run_between(all, full());
     let line = format!("{name}: a write failed, and the {what} is not whole\n");
     assert_eq!(found, said("", &line));
 }
@@ -114,7 +117,8 @@ fn sums_to_lift(count: usize) -> Vec<u8> {
     bytes(&[&[6], &list.repeat(count)[..]].concat())
 }
 
-/// It writes while it reads, so that here nothing is written only of an input of one chunk.
+/// It writes while it reads, so that nothing is written only of an input of one chunk. The whole words that came in front of a failed read
+/// are gone through too: the first of them hands over the chunk before, and where that write fails it is this that is told.
 #[test]
 #[cfg_attr(not(liftlists), ignore = "liftlists is not built")]
 fn liftlists_tells_a_failed_read() {
@@ -131,6 +135,24 @@ fn liftlists_tells_a_failed_read() {
     let folder = File::open(env!("CARGO_MANIFEST_DIR")).expect("this folder");
     let found = program.run_between(folder, Stdio::piped());
     assert_eq!(found, said("", line), "a folder");
+    let chunk = "abcd".repeat(16_384);
+    let input = [&bytes(&[6])[..], chunk.as_bytes(), b"abcdabc"].concat();
+    let unwritten = "liftlists: a write failed, and the file is not whole\n";
+    for (cut, printed, told) in [
+        (65_540, "", line),
+        (65_543, "", line),
+        (65_544, &chunk[..], unwritten),
+        (65_547, &chunk[..], unwritten),
+    ] {
+        let (part, feed) = stream(&input[..cut]);
+        let found = program.run_between(part, Stdio::piped());
+        assert_eq!(found, said(printed, line), "{cut} bytes");
+        drop(feed);
+        let (part, feed) = stream(&input[..cut]);
+        let found = program.run_between(part, full());
+        assert_eq!(found, said("", told), "{cut} bytes, and no room");
+        drop(feed);
+    }
 }
 
 #[test]

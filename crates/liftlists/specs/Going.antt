@@ -1,7 +1,9 @@
 -- How the run goes through a file: what is given for the bytes that came, whatever bytes follow, and what is handed to `write`.
-use Rattle.std.specs.Prelude.{Option, Some, None, ℕ, ◌≤◌, ◌≡◌, List, [], ◌++◌, take}
+use Rattle.std.specs.Prelude.{Option, Some, None, ℕ, ◌+◌, ◌≤◌, ◌≡◌, List, [], ◌++◌, length, take}
+use Rattle.streams.specs.Came.{came}
 use Rattle.listing.specs.Lists.{words_in}
 use Rattle.liftlists.specs.declared.step.Step.{Step}
+use Rattle.liftlists.specs.declared.Turn.{Turn}
 use Rattle.liftlists.specs.LiftedFile.{bytes_of, bytes_behind, lifted_words, lifted_file}
 use Rattle.liftlists.specs.Steps.{Fine, held_in}
 
@@ -47,3 +49,10 @@ abbrev pub FedTo : ℕ → (List ℕ → List ℕ) → List ℕ → Option Step 
 FedTo to here chunk (Some step) list out =
     Fine step.stage list × (step.at ≤ 147463) × FileGoes here chunk (yet to (held_in step.stage list) out step.at)
 FedTo to here chunk None list out = Unit {0}
+
+-- WHAT A CHUNK LEADS TO, which lies in front of the space: its whole words lead on, and at most three bytes are behind them.
+pub record ChunkTurned (to : ℕ) (here : List ℕ → List ℕ) (r : Turn) (space list out : List ℕ) : Type 0 where
+  pub fed_to : FedTo to here (take r.whole space) r.step list out
+  pub whole : r.whole ≤ came r.filled
+  pub most : came r.filled ≤ r.whole + 3
+  pub room : came r.filled ≤ length space

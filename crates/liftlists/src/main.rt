@@ -11,23 +11,25 @@ mod lent;
 mod put;
 mod step;
 
-ghost use Rattle.std.specs.Prelude.{◌≡◌, [], ◌^◌, ◌≤◌, ◌<◌, length};
+ghost use Rattle.std.specs.Prelude.{◌≡◌, [], ◌^◌, ◌≤◌, ◌<◌, length, take};
+ghost use Rattle.std.specs.Io.KnownBytes.{Consumes};
+ghost use Rattle.streams.specs.Came.{came};
 ghost use Rattle.liftlists.specs.Steps.{Fine, held_in};
-ghost use Rattle.liftlists.specs.Going.{file_from, yet, PlaceReached};
+ghost use Rattle.liftlists.specs.Going.{file_from, yet, PlaceReached, ChunkTurned};
 
 use crate::feed::feed;
 use crate::hand::{hand_last, unread, unwritten};
 use crate::lent::{ListBuffer, OutBuffer, Scratch};
-use crate::step::{Stage, close_last};
+use crate::step::{Stage, Step, close_last};
 use listing::bytes::word_of;
 use std::io::Read;
-use streams::{TURNS, fill};
+use streams::{Failed, TURNS, fill};
 use text::put_bytes;
 
 // A version word is below this.
 const PAST_VERSIONS: u32 = 65_536;
 
-// The input has ended: the list that is kept, and the bytes behind the last whole word. `carry` leaves at most three of these.
+// The input has ended: the list that is kept, and the bytes behind the last whole word. `read_on` leaves at most three of these.
 fn finish<S: Print + Eprint>(
     rt: &S,
     stage: Stage,
@@ -46,6 +48,53 @@ fn finish<S: Print + Eprint>(
     hand_last(rt, &out[..last]);
 }
 
+// What a chunk led to: where the file goes on, nothing if a write failed, how many bytes are whole words, and how many came.
+#[derive(Clone, Copy)]
+struct Turn {
+    step: Option<Step>,
+    whole: usize,
+    filled: Result<usize, Failed>,
+}
+
+// How many bytes came, also if a read failed then.
+fn came_of(filled: Result<usize, Failed>) -> usize
+    ensures { result ≡ came filled }
+{
+    match filled {
+        Ok(bytes) => bytes,
+        Err(failed) => failed.bytes,
+    }
+}
+
+// One chunk more, which is taken from the input and lies in front of the space. Where a read fails in it, the words before that are fed too.
+fn read_on<R: Read, P: Print>(
+    input: &mut R,
+    rt: &P,
+    stage: Stage,
+    list: &mut ListBuffer,
+    space: &mut [u8],
+    to: u32,
+    out: &mut OutBuffer,
+    at: usize,
+    scratch: &mut Scratch,
+) -> Turn
+    requires list_len { (length space.old ≡ 65536) × (to < 2 ^ 16) × (at ≤ 147463) }
+    requires fine { Fine stage list.old × PlaceReached (yet to (held_in stage list.old) out.old at) }
+    ensures turned { ChunkTurned to (yet to (held_in stage list.old) out.old at) result
+        space.new list.new out.new }
+    ensures taken { Consumes (R.remaining input.old) (R.remaining input.new) (take (came result.filled) space.new) }
+{
+    let filled = fill(input, space);
+    let last = came_of(filled);
+    let whole = last / 4 * 4;
+    let step = feed(rt, stage, list, &space[..whole], to, out, at, scratch);
+    Turn {
+        step,
+        whole,
+        filled,
+    }
+}
+
 // Reads the file chunk by chunk and hands over what it gives. `lift_file` lends the space.
 fn carry<R: Read, S: Print + Eprint>(
     input: &mut R,
@@ -62,19 +111,20 @@ fn carry<R: Read, S: Print + Eprint>(
     let mut stage = Stage::Passing;
     let mut at = 0usize;
     for _ in 0..TURNS {
-        let Ok(last) = fill(input, space) else {
-            unread(rt);
+        let turn = read_on(input, rt, stage, list, space, to, out, at, scratch);
+        let Some(step) = turn.step else {
+            unwritten(rt);
             return;
         };
-        let whole = last / 4 * 4;
-        let Some(step) = feed(rt, stage, list, &space[..whole], to, out, at, scratch) else {
-            unwritten(rt);
+        let Ok(last) = turn.filled else {
+            unread(rt);
             return;
         };
         stage = step.stage;
         at = step.at;
         if last < space.len() {
-            finish(rt, stage, list, &space[whole..last], to, out, at, scratch);
+            let tail = &space[turn.whole..last];
+            finish(rt, stage, list, tail, to, out, at, scratch);
             return;
         }
     }
