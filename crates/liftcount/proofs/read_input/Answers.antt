@@ -10,24 +10,27 @@ pub loop-init : goal.loop-init
 unfolding fed
 loop-init g c = (c.requires, record { came = []; few = omega arith; is = c.start-run.ensures c.args.list.now })
 
-pub returns-then-last-space : goal.returns-then-last-space
-returns-then-last-space g c =
+pub read_on-requires : goal.read_on-requires
+read_on-requires g c = c.loop.invariant.0
+
+pub returns-then-next-space : goal.returns-then-next-space
+returns-then-next-space g c =
     let so_far = c.loop.invariant.1 in
-    let within = c.in-Ok.ensures.prefix_len.0 in
+    let next = c.in-Some.ensures in
     record {
       before = so_far.came;
-      few = omega (arith, longer so_far.came _ c.in-Ok.last within (omega (arith, c.loop.invariant.0)), so_far.few);
-      is = on _ _ _ _ so_far (take c.in-Ok.last _) c.feed-run.ensures;
+      few = omega (arith, longer so_far.came _ c.in-Some.next.last next.last_in_bounds (omega (arith, c.loop.invariant.0)), so_far.few);
+      is = on _ _ _ _ so_far (take c.in-Some.next.last _) next.list_after;
     }
 
 pub loop-preserved : goal.loop-preserved
 loop-preserved g c =
     let so_far = c.loop.invariant.1 in
-    let within = c.in-Ok.ensures.prefix_len.0 in (
+    let next = c.in-Some.ensures in (
       omega (arith, c.loop.invariant.0),
       record {
-        came = so_far.came ++ take c.in-Ok.last _;
-        few = omega (arith, longer so_far.came _ c.in-Ok.last within (omega (arith, c.loop.invariant.0)), so_far.few);
-        is = on _ _ _ _ so_far (take c.in-Ok.last _) c.feed-run.ensures;
+        came = so_far.came ++ take c.in-Some.next.last _;
+        few = omega (arith, longer so_far.came _ c.in-Some.next.last next.last_in_bounds (omega (arith, c.loop.invariant.0)), so_far.few);
+        is = on _ _ _ _ so_far (take c.in-Some.next.last _) next.list_after;
       },
     )
