@@ -136,9 +136,9 @@ Of `treelist`, `everylist`, `liftcount` and `liftlists` every local is held from
 that are handed to `write`: what came, what is kept of it, what is printed for it. Not held, and to be believed: that `read` puts the bytes
 of the input there, each once and in order, as many as it answers, and 0 or -1 only if the input has ended or the read failed; that a chunk
 before the last is not passed by, since the promises speak of 'some bytes' there (`RestRead`, `Reached`, `PlaceReached`: one call,
-`read_on`, in one loop of each program), and so `treelist`'s count of the bytes behind its front; that `liftlists` hands over each piece
-once, since a promise says of each piece alone that it comes next in the lifted file (`IsNextPiece`: one call, in `spill`); that `write`
-passes on what it is handed; which line is written to standard error.
+`read_on`, in one loop of each program; of `liftcount` `TakenFrom` holds it), and so `treelist`'s count of the bytes behind its front; that
+`liftlists` hands over each piece once, since a promise says of each piece alone that it comes next in the lifted file (`IsNextPiece`: one
+call, in `spill`); that `write` passes on what it is handed; which line is written to standard error.
 
 `rules-by-operator` is not among the theorems: it is a step of the proof of `parse_ruled`, whose promise says which rule a node has.
 

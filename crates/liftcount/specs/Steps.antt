@@ -1,6 +1,7 @@
 -- What the code's steps come to, by their parts: the stage after a word, how the next list opens, what an ending prints; and what chunks
 -- lead to.
-use Rattle.std.specs.Prelude.{Result, Ok, Err, ℕ, ◌^◌, ◌<◌, ◌≡◌, List, ◌++◌, ℤ, length, take}
+use Rattle.std.specs.Prelude.{Option, Result, Ok, Err, ℕ, ◌^◌, ◌<◌, ◌≡◌, List, ◌++◌, ℤ, length, take}
+use Rattle.std.specs.Io.KnownBytes.{Consumes}
 use Rattle.liftcount.specs.declared.run.Stage.{Stage}
 use Rattle.liftcount.specs.declared.run.Stage.TheVariants.{InList}
 use Rattle.liftcount.specs.declared.run.Counts.{Counts}
@@ -17,6 +18,12 @@ at_stage stage counts list = record { stage = stage; counts = counts; list = lis
 pub record Reached (list space : List ℕ) (last : ℕ) (s : State) : Type 0 where
   pub before : List ℕ
   pub few : length (before ++ take last space) < 2 ^ 57
+  pub is : s ≡ fed (started list) (before ++ take last space)
+
+-- WHAT IS TAKEN FROM A READER leads there: these bytes and no others were taken from it, each once and in order.
+pub record TakenFrom (old new : Option (List ℕ)) (list space : List ℕ) (last : ℕ) (s : State) : Type 0 where
+  pub before : List ℕ
+  pub all : Consumes old new (before ++ take last space)
   pub is : s ≡ fed (started list) (before ++ take last space)
 
 -- The state that a whole input leads to.

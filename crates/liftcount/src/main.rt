@@ -11,10 +11,9 @@ mod judge;
 mod run;
 mod step;
 
-ghost use Rattle.std.specs.Prelude.{◌≡◌, ◌≤◌, List, ℕ, length, take, IfSome};
-ghost use Rattle.std.specs.Io.KnownBytes.{Consumes};
-ghost use Rattle.liftcount.specs.Running.{state_of, started, fed};
-ghost use Rattle.liftcount.specs.Steps.{Reached, Came, IsPrinted};
+ghost use Rattle.std.specs.Prelude.{◌≡◌, List, ℕ, length, IfSome};
+ghost use Rattle.liftcount.specs.Running.{state_of, started};
+ghost use Rattle.liftcount.specs.Steps.{Reached, TakenFrom, Came, IsPrinted};
 
 use crate::feed::feed;
 use crate::finish::finish;
@@ -41,46 +40,28 @@ fn start() -> Run
     }
 }
 
-// What an input has come to: the run, and how many bytes came last.
+// What an input has come to that was read to its end: the run, and how many bytes came last.
 #[derive(Clone, Copy)]
 struct Reading {
     run: Run,
     last: usize,
 }
 
-// One chunk more, which is taken from the input and lies in front of the space; nothing if a read fails.
-fn read_on<R: Read>(
-    input: &mut R,
-    run: Run,
-    list: &mut ListBuffer,
-    space: &mut [u8],
-) -> Option<Reading>
-    requires { length space.old ≡ 65536 }
-    ensures last_in_bounds { IfSome result (λ next. next.last ≤ length space.new) }
-    ensures list_after { IfSome result (λ next. state_of next.run list.new ≡ fed (state_of run list.old) (take next.last space.new)) }
-    ensures taken { IfSome result (λ next. Consumes (R.remaining input.old) (R.remaining input.new) (take next.last space.new)) }
-{
-    let Ok(last) = fill(input, space) else {
-        return None;
-    };
-    let run = feed(run, list, &space[..last]);
-    Some(Reading { run, last })
-}
-
 // Reads on as long as chunks fill the space; what the input came to, or nothing if a read fails. `main` lends the space.
 fn read_input<R: Read>(input: &mut R, list: &mut ListBuffer, space: &mut [u8]) -> Option<Reading>
     requires { length space.old ≡ 65536 }
-    ensures { IfSome result (λ reading. Reached list.old space.new reading.last (state_of reading.run list.new)) }
+    ensures reached { IfSome result (λ reading. Reached list.old space.new reading.last (state_of reading.run list.new)) }
+    ensures taken { IfSome result (λ reading. TakenFrom (R.remaining input.old) (R.remaining input.new) list.old space.new reading.last (state_of reading.run list.new)) }
 {
     let mut run = start();
     for _ in 0..TURNS {
-        let Some(next) = read_on(input, run, list, space) else {
+        let Ok(last) = fill(input, space) else {
             return None;
         };
-        if next.last < space.len() {
-            return Some(next);
+        run = feed(run, list, &space[..last]);
+        if last < space.len() {
+            return Some(Reading { run, last });
         }
-        run = next.run;
     }
     None
 }
