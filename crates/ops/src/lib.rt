@@ -79,6 +79,7 @@ pub fn takes_member(op: u32) -> bool
 }
 
 // Whether op is a math call: 8, 10-19, 21-30, 32-39 and 78-110 (`is_math_call` of mod.rs, by document 01's list).
+#[tactic(auto, unfolding(molang::specs::Operator::is_math_call, molang::specs::Operator::between))]
 pub fn is_math_call(op: u32) -> bool
     ensures { result ≡ is_math_call op }
 {

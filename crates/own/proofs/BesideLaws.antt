@@ -5,12 +5,12 @@ use lib.{Dec.{eqb}, Pointwise.{pointwise}, ListN.{length}}
 use Rattle.molang.specs.Lift.{eq_words}
 
 -- The library's `==` is the definition's.
-pub same-pointwise : (xs ys : List ℕ) → pointwise eqb xs ys ≡ eq_words xs ys
+pub same_pointwise : (xs ys : List ℕ) → pointwise eqb xs ys ≡ eq_words xs ys
 unfolding eq_words
-same-pointwise [] [] = refl
-same-pointwise [] (y ∷ ys) = refl
-same-pointwise (x ∷ xs) [] = refl
-same-pointwise (x ∷ xs) (y ∷ ys) = rw (same-pointwise xs ys) refl
+same_pointwise [] [] = refl
+same_pointwise [] (y ∷ ys) = refl
+same_pointwise (x ∷ xs) [] = refl
+same_pointwise (x ∷ xs) (y ∷ ys) = rw (same_pointwise xs ys) refl
 
 -- Words of another count differ.
 pub counts-differ : (xs ys : List ℕ) → (length xs ≡ length ys → ⊥) → eq_words xs ys ≡ false
